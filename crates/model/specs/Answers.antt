@@ -1,0 +1,20 @@
+-- What a call answers, in document 01's numbers, and what it leaves in a lent slice.
+-- Assumes nothing.
+use mathlib.Core.List.{List, [], _++_}
+use Prim.Native.Nat.{ℕ}
+use lib.ListN.{length, drop}
+
+-- the number of the refusal, or 0, and the values of an answer that is none
+pub record Answer : Type 0 where
+  pub number : ℕ
+  pub values : List ℕ
+
+abbrev pub accepted : List ℕ → Answer
+accepted vs = record { number = 0; values = vs }
+
+abbrev pub refused : ℕ → Answer
+refused k = record { number = k; values = [] }
+
+-- a lent slice with the front written over, and the rest as it was
+unfoldable pub over : List ℕ → List ℕ → List ℕ
+over front xs = front ++ drop (length front) xs
