@@ -1,0 +1,5 @@
+pub mod Tests
+pub mod Rising
+pub mod Standing
+pub mod Append
+pub mod Ranges
