@@ -19,9 +19,7 @@ pub(crate) fn table() -> Verdict {
     planning_table();
     merging_table();
     reading_table();
-    Ok(format!(
-        "\nbench: each figure is the median of {SAMPLES} samples"
-    ))
+    Ok(format!("\nbench: each figure is the median of {SAMPLES} samples"))
 }
 
 /// The head of a table with a title above it.
@@ -33,10 +31,7 @@ fn head(title: &str, columns: &[&str]) {
 
 /// What is measured. Fails where the planner takes another tag than the input was made for.
 fn inputs_table() -> Result<(), String> {
-    head(
-        "Inputs by tag",
-        &["tag", "rows are", "span", "rows", "segments", "bytes"],
-    );
+    head("Inputs by tag", &["tag", "rows are", "span", "rows", "segments", "bytes"]);
     for (tag, Input { name, case }) in by_tag() {
         let plan = original::plan(&case).map_err(|no| format!("{name}: {no:?}"))?;
         if plan.tag != tag {
@@ -56,13 +51,7 @@ fn planning_time(case: &Case) -> f64 {
 }
 
 fn planning_table() {
-    let columns = [
-        "tag",
-        "no seeds, µs",
-        "ns per row",
-        "pages of 64 rows, µs",
-        "ns per row",
-    ];
+    let columns = ["tag", "no seeds, µs", "ns per row", "pages of 64 rows, µs", "ns per row"];
     head("Planning by tag", &columns);
     for (tag, Input { case, .. }) in by_tag() {
         let rows = case.rows.len() as f64;
@@ -79,15 +68,7 @@ fn planning_table() {
 }
 
 fn merging_table() {
-    let columns = [
-        "65,535 rows",
-        "seeds",
-        "offers",
-        "segments",
-        "tag",
-        "ms",
-        "ns per seed",
-    ];
+    let columns = ["65,535 rows", "seeds", "offers", "segments", "tag", "ms", "ns per seed"];
     head("Planning with many seeds", &columns);
     for Input { name, case } in for_merging() {
         let paged = [16, 1].map(|size| case.clone().in_pages_of(size));
@@ -176,10 +157,6 @@ impl Questions {
                 absent.push(position as u32);
             }
         }
-        Self {
-            present,
-            absent,
-            ordinals,
-        }
+        Self { present, absent, ordinals }
     }
 }

@@ -24,7 +24,7 @@ mod reading;
 
 use std::process::ExitCode;
 
-const USAGE: &str = "differential examples|merging|reading|deletions|bench";
+const USAGE: &str = "differential examples|merging|reading|largest|deletions|bench";
 
 fn main() -> ExitCode {
     index::original::hush_caught_panics();
@@ -33,6 +33,7 @@ fn main() -> ExitCode {
         "examples" => examples::compare(),
         "merging" => merging::compare(),
         "reading" => reading::compare(),
+        "largest" => reading::compare_largest(),
         "deletions" => deletions::compare(),
         "bench" => bench::table(),
         _ => Err(format!("usage: {USAGE}")),

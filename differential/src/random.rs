@@ -96,12 +96,8 @@ pub(crate) enum Source {
     Mixed,
 }
 
-pub(crate) const SOURCES: [Source; 4] = [
-    Source::Nothing,
-    Source::Windows,
-    Source::Pages,
-    Source::Mixed,
-];
+pub(crate) const SOURCES: [Source; 4] =
+    [Source::Nothing, Source::Windows, Source::Pages, Source::Mixed];
 
 /// The same case, gathered from that source.
 pub(crate) fn gathered(random: &mut Random, source: Source, mut case: Case) -> Case {

@@ -37,12 +37,20 @@ pub(crate) fn compare() -> Verdict {
     long::all().iter().try_for_each(each)?;
     let tags: Vec<String> = (1..10).map(|tag| tally.accepted[tag].to_string()).collect();
     Ok(format!(
-        "reading: {} bodies accepted alike with {} ranks, {} refused alike; accepted by tags 1 to 9: {}",
+        "reading: {} bodies accepted alike with {} ranks, {} refused alike; accepted by tags \
+         1 to 9: {}",
         tally.accepted.iter().sum::<usize>(),
         tally.ranks,
         tally.refused,
         tags.join(" ")
     ))
+}
+
+/// The one body too large for every run.
+pub(crate) fn compare_largest() -> Verdict {
+    let largest = long::largest();
+    compare_body(&largest, &mut Tally::default())?;
+    Ok(format!("largest: a bitmap of {} bytes read alike", largest.body.len()))
 }
 
 fn compare_body(reading: &Reading, tally: &mut Tally) -> Result<(), String> {
@@ -81,10 +89,7 @@ fn compare_answers(set: Accepted, list: &[u64], span: u32) -> Result<usize, Stri
         return Err(format!("walks other rows than {list:?}"));
     }
     let last = list.len() - 1;
-    for ordinal in (0..last)
-        .step_by(step(list))
-        .chain([last, last + 1, 65_535])
-    {
+    for ordinal in (0..last).step_by(step(list)).chain([last, last + 1, 65_535]) {
         let Ok(asked) = u16::try_from(ordinal) else {
             continue;
         };
@@ -111,15 +116,7 @@ fn step(list: &[u64]) -> usize {
 
 /// Positions worth asking for: the ends, rows and what stands beside them.
 fn questions(list: &[u64], span: u32) -> Vec<u32> {
-    let ends = [
-        0,
-        1,
-        span / 2,
-        span - 1,
-        span,
-        span.saturating_add(1),
-        u32::MAX,
-    ];
+    let ends = [0, 1, span / 2, span - 1, span, span.saturating_add(1), u32::MAX];
     let beside = |row: &u64| [row.wrapping_sub(1), *row, row + 1].map(|p| p as u32);
     let rows = list.iter().step_by(step(list));
     let mut questions: Vec<u32> = rows.flat_map(beside).chain(ends).collect();

@@ -44,10 +44,7 @@ unsafe extern "C" {
 /// The processor time that this thread has used.
 fn processor_time() -> Duration {
     const THREAD_PROCESSOR_TIME: i32 = 3;
-    let mut time = Time {
-        seconds: 0,
-        nanoseconds: 0,
-    };
+    let mut time = Time { seconds: 0, nanoseconds: 0 };
     // SAFETY: the call writes one timespec, and `time` has its layout.
     let failed = unsafe { clock_gettime(THREAD_PROCESSOR_TIME, &mut time) };
     assert_eq!(failed, 0, "the thread's processor time can be read");

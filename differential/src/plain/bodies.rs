@@ -96,11 +96,7 @@ pub(crate) fn whole(form: &Cost, positions: &[u64], span: u64) -> Vec<u8> {
         TRIMMED_MISSING => out.u32(first).u16(length).u16(count),
         _ => &mut out,
     };
-    let (base, local_span) = if form.trimmed {
-        (first, length)
-    } else {
-        (0, span)
-    };
+    let (base, local_span) = if form.trimmed { (first, length) } else { (0, span) };
     let local: Vec<u64> = positions.iter().map(|p| p - base).collect();
     out.bytes(&payload(form.tag, &local, local_span));
     std::mem::take(&mut out.0)
@@ -139,9 +135,7 @@ pub(crate) fn segmented(parts: &[Part]) -> Vec<u8> {
     for part in parts {
         let length = part.payload.len() as u64;
         out.u32(part.start).u16(part.span).u16(part.count);
-        out.u16(ordinal % 65_536)
-            .u16(offset % 65_536)
-            .u16(length % 65_536);
+        out.u16(ordinal % 65_536).u16(offset % 65_536).u16(length % 65_536);
         out.bytes(&[part.tag, 0]);
         ordinal += part.count;
         offset += length;

@@ -75,10 +75,7 @@ pub(crate) fn seed_segments(rows: &[u64], ends: &[usize]) -> Vec<Segment> {
     let starts = std::iter::once(&0).chain(ends);
     let ranges = starts.zip(ends);
     ranges
-        .map(|(start, end)| Segment {
-            end: *end,
-            stats: Stats::of(&rows[*start..*end]),
-        })
+        .map(|(start, end)| Segment { end: *end, stats: Stats::of(&rows[*start..*end]) })
         .collect()
 }
 

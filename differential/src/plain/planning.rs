@@ -1,5 +1,6 @@
-//! Document 01's planning: refusals 1, 2, 3 and 6, the choice, and the body. Refusal 4 cannot
-//! come, since seeds are always gathered here; 5 and 7 are about memory that is not lent here.
+//! Document 01's planning: refusals 1 to 4 and 6, the choice, and the body. Of refusal 4 only
+//! the last end is tested, since seeds are always gathered here; refusals 5 and 7 are about
+//! memory that is not lent here.
 
 use super::SEGMENTED;
 use super::bodies::{part, segmented, whole};
@@ -13,23 +14,19 @@ pub(crate) fn plan(case: &Case) -> Result<Plan, u8> {
     let stats = Stats::of(&case.rows);
     let forms = whole_forms(&stats, case.start, span);
     let form = forms.iter().min().expect("a list is always there");
-    let (segments, offers) = merge(seed_segments(&case.rows, &gather(case)));
+    let ends = gather(case);
+    if ends.last() != Some(&case.rows.len()) {
+        return Err(4);
+    }
+    let (segments, offers) = merge(seed_segments(&case.rows, &ends));
     let split = segmented_cost(&segments);
     let taken = split < (form.bytes, 1, form.depth, form.words, form.order);
     let bytes = if taken { split.0 } else { form.bytes };
     if bytes > case.limit as u64 || bytes > 65_535 {
         return Err(6);
     }
-    let body = if taken {
-        segmented_body(case, &segments)
-    } else {
-        whole_body(case, form)
-    };
-    assert_eq!(
-        body.len() as u64,
-        bytes,
-        "a body is as long as its cost says"
-    );
+    let body = if taken { segmented_body(case, &segments) } else { whole_body(case, form) };
+    assert_eq!(body.len() as u64, bytes, "a body is as long as its cost says");
     Ok(Plan {
         tag: if taken { SEGMENTED } else { form.tag },
         body,
@@ -56,9 +53,7 @@ fn refuse(case: &Case) -> Result<(), u8> {
 
 /// (bytes, segments, depth, words, order), as document 01 compares them.
 pub(crate) fn segmented_cost(segments: &[Segment]) -> (u64, u64, u64, u64, u64) {
-    let local = segments
-        .iter()
-        .map(|segment| cheapest_local(&segment.stats));
+    let local = segments.iter().map(|segment| cheapest_local(&segment.stats));
     let local: Vec<Cost> = local.collect();
     let largest = |figure: fn(&Cost) -> u64| local.iter().map(figure).max().unwrap_or(0);
     let count = segments.len() as u64;

@@ -9,40 +9,19 @@ pub(crate) fn read(tag: u8, span: u64, body: &[u8]) -> Option<Vec<u64>> {
     let positions = match tag {
         DENSE | LIST16 | LIST32 => local(tag, span, body),
         RUNS16 | RUNS32 => {
-            let (header, runs) = body.split_at_checked(4)?;
+            let runs = body.get(4..)?;
             let width = if tag == RUNS16 { 6 } else { 8 };
-            let stated = number(header, 2, 2)? == (runs.len() / width) as u64;
-            counted(
-                number(header, 0, 2)?,
-                local(tag, span, runs).filter(|_| stated),
-            )
+            let stated = number(body, 2, 2)? == (runs.len() / width) as u64;
+            counted(number(body, 0, 2)?, local(tag, span, runs).filter(|_| stated))
         }
+        BITMAP => counted(number(body, 0, 2)?, whole_bitmap(span, body)),
         MISSING => {
-            let (header, holes) = body.split_at_checked(4)?;
-            let zero = number(header, 2, 2)? == 0;
-            counted(
-                number(header, 0, 2)?,
-                local(tag, span, holes).filter(|_| zero),
-            )
-        }
-        BITMAP if *body.get(2)? == 0 && *body.get(3)? == 0 => {
-            counted(number(body, 0, 2)?, local(tag, span, &body[4..]))
-        }
-        BITMAP if *body.get(2)? == 1 && *body.get(3)? == 0 => {
-            let (header, rest) = body.split_at_checked(12)?;
-            let (base, length) = (number(header, 4, 4)?, number(header, 8, 4)?);
-            counted(
-                number(header, 0, 2)?,
-                trimmed(tag, span, base, length, rest),
-            )
+            let zero = number(body, 2, 2)? == 0;
+            counted(number(body, 0, 2)?, local(tag, span, &body[4..]).filter(|_| zero))
         }
         TRIMMED_MISSING => {
-            let (header, holes) = body.split_at_checked(8)?;
-            let (base, length) = (number(header, 0, 4)?, number(header, 4, 2)?);
-            counted(
-                number(header, 6, 2)?,
-                trimmed(MISSING, span, base, length, holes),
-            )
+            let (base, length) = (number(body, 0, 4)?, number(body, 4, 2)?);
+            counted(number(body, 6, 2)?, trimmed(MISSING, span, base, length, &body[8..]))
         }
         SEGMENTED => counted(number(body, 0, 2)?, segments(span, body)),
         _ => None,
@@ -50,15 +29,22 @@ pub(crate) fn read(tag: u8, span: u64, body: &[u8]) -> Option<Vec<u64>> {
     (1..=65_535).contains(&positions.len()).then_some(positions)
 }
 
+/// A bitmap after its count: flag, zero, and where the flag is 1, base and local span.
+fn whole_bitmap(span: u64, body: &[u8]) -> Option<Vec<u64>> {
+    match (number(body, 2, 1)?, number(body, 3, 1)?) {
+        (0, 0) => local(BITMAP, span, &body[4..]),
+        (1, 0) => {
+            let (base, length) = (number(body, 4, 4)?, number(body, 8, 4)?);
+            trimmed(BITMAP, span, base, length, &body[12..])
+        }
+        _ => None,
+    }
+}
+
 /// The little-endian number of so many bytes at that place, if it is inside.
 fn number(bytes: &[u8], at: usize, width: usize) -> Option<u64> {
     let field = bytes.get(at..at + width)?;
-    Some(
-        field
-            .iter()
-            .rev()
-            .fold(0, |n, byte| 256 * n + u64::from(*byte)),
-    )
+    Some(field.iter().rev().fold(0, |n, byte| 256 * n + u64::from(*byte)))
 }
 
 fn counted(stated: u64, positions: Option<Vec<u64>>) -> Option<Vec<u64>> {
@@ -82,11 +68,7 @@ fn local(tag: u8, span: u64, payload: &[u8]) -> Option<Vec<u64>> {
         LIST32 => list(4, span, payload),
         MISSING => {
             let holes = list(2, span, payload).filter(|_| span <= 65_535)?;
-            Some(
-                (0..span)
-                    .filter(|p| holes.binary_search(p).is_err())
-                    .collect(),
-            )
+            Some((0..span).filter(|p| holes.binary_search(p).is_err()).collect())
         }
         RUNS16 => runs(2, span.min(65_536), payload),
         RUNS32 => runs(4, span, payload),
@@ -136,10 +118,7 @@ fn bitmap(span: u64, payload: &[u8]) -> Option<Vec<u64>> {
             }
         }
     }
-    positions
-        .last()
-        .is_none_or(|last| *last < span)
-        .then_some(positions)
+    positions.last().is_none_or(|last| *last < span).then_some(positions)
 }
 
 fn segments(span: u64, body: &[u8]) -> Option<Vec<u64>> {

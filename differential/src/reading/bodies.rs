@@ -15,15 +15,9 @@ const OTHER_SPANS: [u32; 9] = [63, 64, 65, 255, 256, 257, 4_096, 65_534, 1_000_0
 pub(super) fn for_each(
     each: &mut impl FnMut(&Reading) -> Result<(), String>,
 ) -> Result<(), String> {
-    for span in SPANS
-        .into_iter()
-        .chain(OTHER_SPANS)
-        .filter(|span| *span > 0)
-    {
+    for span in SPANS.into_iter().chain(OTHER_SPANS).filter(|span| *span > 0) {
         for positions in row_sets(u64::from(span)) {
-            whole_bodies(&positions, span)
-                .iter()
-                .try_for_each(&mut *each)?;
+            whole_bodies(&positions, span).iter().try_for_each(&mut *each)?;
             let segmented = [1, 7, 300].map(|rows| segmented_body(&positions, span, rows));
             segmented.iter().flatten().try_for_each(&mut *each)?;
         }
@@ -73,14 +67,8 @@ fn whole_bodies(positions: &[u64], span: u32) -> Vec<Reading> {
 /// part or the directory would be too long for its fields.
 pub(super) fn segmented_body(positions: &[u64], span: u32, rows: usize) -> Option<Reading> {
     let parts = positions.chunks(rows).enumerate();
-    let parts: Vec<Part> = parts
-        .map(|(turn, rows)| part(turn, rows))
-        .collect::<Option<_>>()?;
-    (parts.len() <= 65_535).then(|| Reading {
-        tag: SEGMENTED,
-        span,
-        body: segmented(&parts),
-    })
+    let parts: Vec<Part> = parts.map(|(turn, rows)| part(turn, rows)).collect::<Option<_>>()?;
+    (parts.len() <= 65_535).then(|| Reading { tag: SEGMENTED, span, body: segmented(&parts) })
 }
 
 /// A part of any form that can hold the rows, chosen by turns.

@@ -4,9 +4,7 @@ use super::Reading;
 use super::bodies::part;
 use crate::plain::bodies::{Bytes, Part, payload, segmented, whole};
 use crate::plain::costs::Cost;
-use crate::plain::{
-    BITMAP, DENSE, LIST16, LIST32, MISSING, RUNS16, RUNS32, SEGMENTED, TRIMMED_MISSING,
-};
+use crate::plain::{BITMAP, LIST16, LIST32, MISSING, RUNS16, RUNS32, SEGMENTED, TRIMMED_MISSING};
 
 const TOP: u32 = 4_294_967_295;
 
@@ -58,51 +56,54 @@ fn run_body(tag: u8, runs: &[(u64, u64)]) -> Vec<u8> {
 
 fn runs() -> Vec<Reading> {
     let mut all = Vec::new();
-    let many = |count| (0..count).map(|n| (2 * n, 1)).collect::<Vec<_>>();
-    let top = u64::from(TOP);
     for span in [65_534, 65_535, 65_536, 65_537, TOP - 1, TOP] {
-        for tag in [RUNS16, RUNS32] {
-            for run in [
-                (65_535, 1),
-                (65_535, 2),
-                (65_534, 2),
-                (0, 65_535),
-                (1, 65_535),
-                (2, 65_535),
-            ] {
-                all.push(reading(tag, span, run_body(tag, &[run])));
-            }
-            all.push(reading(tag, span, run_body(tag, &many(32_768))));
-            // 65,536 rows and one more: the counts wrap to 0 and 1.
-            all.push(reading(
-                tag,
-                span,
-                run_body(tag, &[(0, 32_767), (32_768, 32_768), (65_535, 1)]),
-            ));
-            all.push(reading(
-                tag,
-                span,
-                run_body(tag, &[(0, 65_535), (65_535, 2)]),
-            ));
-        }
-        for runs in [
-            vec![(top - 1, 1)],
-            vec![(top - 1, 2)],
-            vec![(top, 1)],
-            vec![(top, 65_535)],
-        ] {
+        for runs in short_runs() {
+            all.push(reading(RUNS16, span, run_body(RUNS16, &runs)));
             all.push(reading(RUNS32, span, run_body(RUNS32, &runs)));
         }
-        for runs in [
-            vec![(0, 40_000), (70_000, 40_000)],
-            vec![(0, 65_535), (70_000, 1), (70_002, 1)],
-        ] {
+        for runs in wide_runs() {
             all.push(reading(RUNS32, span, run_body(RUNS32, &runs)));
         }
-        all.push(reading(RUNS32, span, run_body(RUNS32, &many(65_535))));
-        all.push(reading(RUNS32, span, run_body(RUNS32, &many(65_536))));
     }
     all
+}
+
+/// So many runs of one row.
+fn single_rows(count: u64) -> Vec<(u64, u64)> {
+    (0..count).map(|n| (2 * n, 1)).collect()
+}
+
+/// Runs whose starts fit two bytes, around the end at 65,536.
+fn short_runs() -> Vec<Vec<(u64, u64)>> {
+    vec![
+        vec![(65_535, 1)],
+        vec![(65_535, 2)],
+        vec![(65_534, 2)],
+        vec![(0, 65_535)],
+        vec![(1, 65_535)],
+        vec![(2, 65_535)],
+        single_rows(32_768),
+        // 65,536 rows, and 65,537 whose first two runs touch: the counts wrap.
+        vec![(0, 32_767), (32_768, 32_768), (65_535, 1)],
+        vec![(0, 65_535), (65_535, 2)],
+    ]
+}
+
+/// Runs whose starts need four bytes, around the largest span and around 65,535 rows.
+fn wide_runs() -> Vec<Vec<(u64, u64)>> {
+    let top = u64::from(TOP);
+    vec![
+        vec![(top - 1, 1)],
+        vec![(top - 1, 2)],
+        vec![(top, 1)],
+        vec![(top, 65_535)],
+        vec![(0, 40_000), (70_000, 25_535)],
+        vec![(0, 40_000), (70_000, 25_536)],
+        vec![(0, 40_000), (70_000, 40_000)],
+        vec![(0, 65_535), (70_000, 1), (70_002, 1)],
+        single_rows(65_535),
+        single_rows(65_536),
+    ]
 }
 
 /// As many holes as fit, and bases at the end of the coverage.
@@ -119,17 +120,12 @@ fn holes() -> Vec<Reading> {
         let body = whole(&trimmed, &[0, 65_534], 65_535);
         all.push(reading(TRIMMED_MISSING, span, body));
     }
+    let single = whole(&trimmed, &[top - 1], top);
+    let pairs = [[top - 65_535, top - 1], [top - 65_534, top]];
     for span in [TOP, TOP - 1] {
-        for (first, last) in [
-            (top - 1, top - 1),
-            (top - 65_535, top - 1),
-            (top - 65_534, top),
-        ] {
-            all.push(reading(
-                TRIMMED_MISSING,
-                span,
-                whole(&trimmed, &[first, last][usize::from(first == last)..], top),
-            ));
+        all.push(reading(TRIMMED_MISSING, span, single.clone()));
+        for pair in pairs {
+            all.push(reading(TRIMMED_MISSING, span, whole(&trimmed, &pair, top)));
         }
     }
     all
@@ -152,10 +148,7 @@ fn full_bitmap(count: u64, span: u64) -> Vec<u8> {
 
 fn bitmaps() -> Vec<Reading> {
     let plain = Cost::new(BITMAP, 0, 0);
-    let trimmed = Cost {
-        trimmed: true,
-        ..plain
-    };
+    let trimmed = Cost { trimmed: true, ..plain };
     let top = u64::from(TOP);
     let mut all = Vec::new();
     for count in [65_535, 65_536, 65_537, 66_000, 131_073] {
@@ -168,11 +161,7 @@ fn bitmaps() -> Vec<Reading> {
         all.push(reading(BITMAP, span as u32, whole(&plain, &rows, span)));
         all.push(reading(BITMAP, TOP, whole(&trimmed, &rows, span)));
     }
-    for (first, last) in [
-        (top - 300, top - 1),
-        (top - 600_000, top - 1),
-        (top - 300, top),
-    ] {
+    for (first, last) in [(top - 300, top - 1), (top - 600_000, top - 1), (top - 300, top)] {
         all.push(reading(BITMAP, TOP, whole(&trimmed, &[first, last], top)));
     }
     all
@@ -181,49 +170,59 @@ fn bitmaps() -> Vec<Reading> {
 /// A list part over [0, 65535) with so many rows, moved to `start`.
 fn list_part(start: u64, rows: u64) -> Part {
     let positions: Vec<u64> = (0..rows).chain([65_534]).collect();
-    Part {
-        start,
-        ..part(0, &positions).expect("a span of 65,535")
-    }
+    Part { start, ..part(0, &positions).expect("a span of 65,535") }
+}
+
+/// A part without holes.
+fn dense_part(start: u64, rows: u64) -> Part {
+    let positions: Vec<u64> = (0..rows).collect();
+    Part { start, ..part(4, &positions).expect("a span of 65,535") }
+}
+
+/// A part of one row, written as a run.
+fn run_part(row: u64) -> Part {
+    part(1, &[row]).expect("one row")
+}
+
+/// A part that claims a span and holds nothing.
+fn empty_part(start: u64) -> Part {
+    Part { start, span: 5, count: 0, tag: LIST16, payload: Vec::new() }
 }
 
 fn directories() -> Vec<Reading> {
-    let single = |n: u64| part(0, &[20 * n]).expect("one row");
-    let dense = |start: u64, rows: u64| Part {
-        start,
-        ..part(4, &(0..rows).collect::<Vec<_>>()).expect("one run")
-    };
-    let run = |start: u64| part(1, &[start]).expect("one row");
+    let top = u64::from(TOP);
+    let single_rows = |count| (0..count).map(|n| run_part(20 * n)).collect::<Vec<_>>();
     let lists = [
         // The last part may begin before byte 65,536 and end after it.
         vec![list_part(0, 30_000), list_part(70_000, 32_766)],
         vec![list_part(0, 30_000), list_part(70_000, 32_767)],
         // A third part would begin after it, where no offset reaches.
-        vec![
-            list_part(0, 30_000),
-            list_part(70_000, 20_000),
-            dense(140_000, 3),
-        ],
-        vec![
-            list_part(0, 30_000),
-            list_part(70_000, 20_000),
-            run(140_000),
-        ],
+        vec![list_part(0, 30_000), list_part(70_000, 20_000), dense_part(140_000, 3)],
+        vec![list_part(0, 30_000), list_part(70_000, 20_000), run_part(140_000)],
         // Counts on both sides of 65,535.
-        vec![dense(0, 65_534), dense(65_534, 1)],
-        vec![dense(0, 65_535), dense(65_535, 1)],
-        vec![dense(0, 65_535), dense(65_535, 2)],
-        vec![dense(0, 40_000), dense(40_000, 40_000)],
+        vec![dense_part(0, 65_534), dense_part(65_534, 1)],
+        vec![dense_part(0, 65_535), dense_part(65_535, 1)],
+        vec![dense_part(0, 65_535), dense_part(65_535, 2)],
+        vec![dense_part(0, 40_000), dense_part(40_000, 40_000)],
+        // Parts without rows.
+        vec![empty_part(0)],
+        vec![dense_part(0, 3), empty_part(3), dense_part(8, 3)],
         // Ends of the coverage.
-        vec![run(u64::from(TOP) - 1)],
-        vec![run(u64::from(TOP))],
-        vec![dense(u64::from(TOP) - 65_535, 65_535)],
-        vec![dense(u64::from(TOP) - 65_534, 65_535)],
+        vec![run_part(top - 1)],
+        vec![run_part(top)],
+        vec![dense_part(top - 65_535, 65_535)],
+        vec![dense_part(top - 65_534, 65_535)],
         // 4,095 entries fill the first 65,524 bytes; with one more, no offset is in reach.
-        (0..4_095).map(single).collect(),
-        (0..4_096).map(single).collect(),
+        (0..4_095).map(|n| dense_part(20 * n, 1)).collect(),
+        single_rows(4_096),
+        single_rows(4_095),
     ];
-    assert!(lists.iter().flatten().any(|part| part.tag == DENSE));
-    let body = |parts: &Vec<Part>| reading(SEGMENTED, TOP, segmented(parts));
-    lists.iter().map(body).collect()
+    lists.iter().map(|parts| reading(SEGMENTED, TOP, segmented(parts))).collect()
+}
+
+/// A plain bitmap over the largest span: more than half a gigabyte.
+pub(super) fn largest() -> Reading {
+    let top = u64::from(TOP);
+    let rows = [0, 255, 256, top / 2, top - 256, top - 1];
+    reading(BITMAP, TOP, whole(&Cost::new(BITMAP, 0, 0), &rows, top))
 }

@@ -12,11 +12,7 @@ pub(super) fn for_each(
     let mut ask = |body: &[u8], spans: &[u32]| {
         for tag in 0..=10 {
             for span in spans {
-                each(&Reading {
-                    tag,
-                    span: *span,
-                    body: body.to_vec(),
-                })?;
+                each(&Reading { tag, span: *span, body: body.to_vec() })?;
             }
         }
         Ok(())
@@ -26,15 +22,13 @@ pub(super) fn for_each(
         ask(&[low], &SPANS)?;
     }
     for both in 0..=u16::MAX {
-        ask(&both.to_le_bytes(), &[1, 256, 65_535, 65_536])?;
+        ask(&both.to_le_bytes(), &[256, 65_535])?;
     }
     for fields in 2..=5 {
-        every_choice(fields, &[0, 1, 2, 256, 65_535], &mut |body| {
-            ask(body, &SPANS)
-        })?;
+        every_choice(fields, &[0, 1, 2, 256, 65_535], &mut |body| ask(body, &SPANS))?;
     }
     for fields in 6..=8 {
-        every_choice(fields, &[0, 1, 2, 3], &mut |body| ask(body, &[2, 5, 65]))?;
+        every_choice(fields, &[0, 1, 2, 3], &mut |body| ask(body, &[5, 65]))?;
     }
     Ok(())
 }
