@@ -10,6 +10,9 @@ use crate::random::Random;
 /// Bodies above this are left to `long`.
 const LONGEST: u64 = 1 << 20;
 
+/// Bodies above this are damaged in fewer ways.
+const LONG: usize = 4_096;
+
 const OTHER_SPANS: [u32; 9] = [63, 64, 65, 255, 256, 257, 4_096, 65_534, 1_000_000];
 
 pub(super) fn for_each(
@@ -104,6 +107,7 @@ pub(super) fn damaged(
         change(&mut damaged);
         each(&damaged)
     };
+    let other_tags = if reading.body.len() <= LONG { 0..=10 } else { 3..=5 };
     for at in places(random, reading.body.len()) {
         for change in [1, 255, 128, 2] {
             damage(&|r| r.body[at] = r.body[at].wrapping_add(change))?;
@@ -113,7 +117,7 @@ pub(super) fn damaged(
     for added in [1, 2, 4, 16] {
         damage(&|r| r.body.extend(vec![0; added]))?;
     }
-    for tag in 0..=10 {
+    for tag in other_tags {
         damage(&|r| r.tag = tag)?;
     }
     for change in [1, u32::MAX, 64, 65_536] {
@@ -129,5 +133,6 @@ fn places(random: &mut Random, length: usize) -> Vec<usize> {
         return (0..length).collect();
     }
     let mut below = |bound: usize| random.below(bound as u64) as usize;
-    (0..12).flat_map(|_| [below(64), below(length)]).collect()
+    let pairs = if length <= LONG { 12 } else { 2 };
+    (0..pairs).flat_map(|_| [below(64), below(length)]).collect()
 }

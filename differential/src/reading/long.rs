@@ -83,7 +83,7 @@ fn short_runs() -> Vec<Vec<(u64, u64)>> {
         vec![(1, 65_535)],
         vec![(2, 65_535)],
         single_rows(32_768),
-        // 65,536 rows, and 65,537 whose first two runs touch: the counts wrap.
+        // More than 65,535 rows in two-byte starts: such runs must overlap or touch.
         vec![(0, 32_767), (32_768, 32_768), (65_535, 1)],
         vec![(0, 65_535), (65_535, 2)],
     ]
