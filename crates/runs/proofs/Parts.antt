@@ -1,0 +1,103 @@
+-- An accepted body of runs taken apart, and what the check's early answers are of the whole test.
+-- Assumes nothing.
+use mathlib.Core.Path.{_≡_, refl, sym, ap, _∙_}
+use mathlib.Core.Bool.{Bool, true, false}
+use mathlib.Core.Logic.{_⊎_, ⊎-elim}
+use mathlib.Core.List.{List}
+use Prim.Native.Nat.{ℕ, zero, suc, _+_, _-_, _*_, _/_, _^_, _<_, _≤_, min}
+use native.Mathlib.Nat.{mul-div-cancel, div-mul-le-self}
+use native.Mathlib.Omega.{arith}
+use lib.Dec.{leb, eqb}
+use lib.ListN.{length}
+use borrow.Author.Tests.{leb-true, eqb-true, le-leb, lt-leb, eq-eqb, ne-eqb}
+use Rattle.model.specs.Tests.{both, all}
+use Rattle.model.proofs.Tests.{either, never, both-true, both-left, both-right, both-first, both-second, all-at, all-from}
+use Rattle.search.specs.Search.{entry}
+use Rattle.runs.specs.Runs.{strideOf, runCount, runStart, runSize, runBefore, total, least, fits, runFits, mostOf, runsStand, runsAccepts}
+
+-- ---- one run
+
+pub record Fit (start size before low rows most : ℕ) : Type 0 where
+  pub free : low ≤ start
+  pub filled : 1 ≤ size
+  pub within : start + size ≤ most
+  pub exact : before ≡ rows
+
+pub fits-fit : {s z b low rows most : ℕ} → fits s z b low rows most ≡ true → Fit s z b low rows most
+unfolding fits
+fits-fit {s} {z} {b} {low} {rows} {most} e =
+    let e₁ = both-right _ _ e in
+    let e₂ = both-right _ _ e₁ in
+    record { free = leb-true low s (both-left _ _ e); filled = leb-true 1 z (both-left _ _ e₁); within = leb-true (s + z) most (both-left _ _ e₂); exact = eqb-true b rows (both-right _ _ e₂) }
+
+pub fit-fits : {s z b low rows most : ℕ} → Fit s z b low rows most → fits s z b low rows most ≡ true
+unfolding fits
+fit-fits {s} {z} {b} {low} {rows} {most} f =
+    both-true _ _ (le-leb low s (f .free)) (both-true _ _ (le-leb 1 z (f .filled)) (both-true _ _ (le-leb (s + z) most (f .within)) (eq-eqb b rows (f .exact))))
+
+-- ---- the whole body, of n runs
+
+pub record Parts (w : ℕ) (xs : List ℕ) (span count n : ℕ) : Type 0 where
+  pub some : 1 ≤ count
+  pub few : count ≤ span
+  pub sized : n * strideOf w ≡ length xs
+  pub fit : (i : ℕ) → i < n → Fit (runStart w xs i) (runSize w xs i) (runBefore w xs i) (least w xs i) (total (runSize w xs) i) (mostOf w span)
+  pub sum : total (runSize w xs) n ≡ count
+
+module _ (w : ℕ) (xs : List ℕ) (span count : ℕ) where
+  -- the law by which readers take an accepted body apart
+  pub accepts-parts : runsAccepts w xs span count ≡ true → Parts w xs span count (runCount w xs)
+  unfolding runsAccepts runsStand runFits
+  accepts-parts e =
+      let e₁ = both-right _ _ e in
+      let e₂ = both-right _ _ e₁ in
+      let e₃ = both-right _ _ e₂ in
+      record {
+        some = leb-true 1 count (both-left _ _ e);
+        few = leb-true count span (both-left _ _ e₁);
+        sized = eqb-true _ _ (both-left _ _ e₂);
+        fit = λ i l. fits-fit (all-at _ _ (both-left _ _ e₃) i l);
+        sum = eqb-true _ _ (both-right _ _ e₃);
+      }
+
+  pub parts-accepts : Parts w xs span count (runCount w xs) → runsAccepts w xs span count ≡ true
+  unfolding runsAccepts runsStand runFits
+  parts-accepts p =
+      both-true _ _ (le-leb _ _ (p .some))
+      (both-true _ _ (le-leb _ _ (p .few))
+      (both-true _ _ (eq-eqb _ _ (p .sized))
+      (both-true _ _ (all-from _ _ (λ i l. fit-fits (p .fit i l))) (eq-eqb _ _ (p .sum)))))
+
+-- runs that are not empty are no more than their rows
+pub total-least : (f : ℕ → ℕ) (n : ℕ) → ((i : ℕ) → i < n → 1 ≤ f i) → n ≤ total f n
+unfolding total
+total-least f zero h = omega arith
+total-least f (suc n) h = omega (arith, total-least f n (λ i l. h i (omega arith)), h n (omega arith))
+
+pub parts-few : {w : ℕ} {xs : List ℕ} {span count n : ℕ} → Parts w xs span count n → n ≤ count
+parts-few {w} {xs} {n = n} p = rw (p .sum) at (total-least (runSize w xs) n (λ i l. p .fit i l .filled))
+
+-- ---- the answers of the check
+
+module _ (w : ℕ) (xs : List ℕ) (span count : ℕ) where
+  refuse : (runsAccepts w xs span count ≡ true → ⊥) → false ≡ runsAccepts w xs span count
+  refuse h = ⊎-elim (λ e. absurd (h e)) (λ e. sym e) (either (runsAccepts w xs span count))
+
+  pub check-none : count ≡ 0 → false ≡ runsAccepts w xs span count
+  check-none z = refuse (λ e. omega (arith, accepts-parts w xs span count e .some))
+
+  pub check-over : span < count → false ≡ runsAccepts w xs span count
+  check-over l = refuse (λ e. omega (arith, accepts-parts w xs span count e .few))
+
+  pub check-many : (n : ℕ) → n ≡ length xs / strideOf w → count < n → false ≡ runsAccepts w xs span count
+  unfolding runCount
+  check-many n q l = refuse (λ e. omega (arith, parts-few (accepts-parts w xs span count e)))
+
+  pub check-size : (n size : ℕ) → n ≡ length xs / strideOf w → size ≡ n * strideOf w → (size ≡ length xs → ⊥) → false ≡ runsAccepts w xs span count
+  unfolding runCount
+  check-size n size q s d = refuse (λ e. d (s ∙ ap (λ (m : ℕ). m * strideOf w) q ∙ accepts-parts w xs span count e .sized))
+
+  pub check-stand : (n size : ℕ) → n ≡ length xs / strideOf w → size ≡ n * strideOf w → (count ≡ 0 → ⊥) → count ≤ span → size ≡ length xs
+      → runsStand w xs (mostOf w span) count n ≡ runsAccepts w xs span count
+  unfolding runsAccepts runCount both
+  check-stand n size q s z f d = rw (← q, ← s, le-leb 1 count (omega (arith, z)), le-leb count span f, eq-eqb size (length xs) d)

@@ -1,0 +1,67 @@
+-- Place, select and walk of a table of runs, on any bytes, over the width w of a start.
+-- Assumes nothing.
+use mathlib.Core.Bool.{Bool, true, false}
+use mathlib.Core.List.{List, [], _∷_, _++_}
+use Prim.Native.Nat.{ℕ, zero, suc, _+_, _-_, _%_, min}
+use lib.Dec.{ltb}
+use lib.ListN.{length, take}
+use Rattle.model.specs.Lists.{range, moved}
+use Rattle.model.specs.declared.Place.{Place}
+use Rattle.search.specs.Search.{find, upTo}
+use Rattle.runs.specs.Runs.{runStart, runSize, runBefore}
+use Rattle.runs.specs.declared.Entry.{Entry}
+
+-- entry i of the table
+unfoldable pub entryOf : ℕ → List ℕ → ℕ → Entry
+entryOf w xs i = record { start = runStart w xs i; size = runSize w xs i; before = runBefore w xs i }
+
+-- how many of n runs start at p or before; how many state at most k rows before them
+unfoldable pub startsTo : ℕ → List ℕ → ℕ → ℕ → ℕ
+startsTo w xs n p = find (upTo false (runStart w xs) p) 0 n
+
+unfoldable pub beforeTo : ℕ → List ℕ → ℕ → ℕ → ℕ
+beforeTo w xs n k = find (upTo false (runBefore w xs) k) 0 n
+
+-- ---- the place of a position
+
+-- by the last run that starts at p or before
+unfoldable pub placeIn : Entry → ℕ → Place
+placeIn e p = record { below = e .before + min (p - e .start) (e .size); present = ltb (p - e .start) (e .size) }
+
+unfoldable pub placeAt : ℕ → List ℕ → ℕ → ℕ → Place
+placeAt w xs p zero = record { below = 0; present = false }
+placeAt w xs p (suc i) = placeIn (entryOf w xs i) p
+
+unfoldable pub runsPlace : ℕ → List ℕ → ℕ → ℕ → Place
+runsPlace w xs n p = placeAt w xs p (startsTo w xs n p)
+
+-- ---- the position of an ordinal, in 32 bits
+
+unfoldable pub nthOf : Entry → ℕ → ℕ
+nthOf e k = (e .start + (k - e .before)) % 4294967296
+
+unfoldable pub selectAt : ℕ → List ℕ → ℕ → ℕ → ℕ
+selectAt w xs k zero = 0
+selectAt w xs k (suc i) = nthOf (entryOf w xs i) k
+
+unfoldable pub runsSelect : ℕ → List ℕ → ℕ → ℕ → ℕ
+runsSelect w xs n k = selectAt w xs k (beforeTo w xs n k)
+
+-- ---- the walk
+
+-- the positions of m runs from run i on, the first skip of run i left out
+unfoldable pub runsFrom : ℕ → List ℕ → ℕ → ℕ → ℕ → List ℕ
+runsFrom w xs zero i skip = []
+runsFrom w xs (suc m) i skip = range (runStart w xs i + skip) (runSize w xs i - skip) ++ runsFrom w xs m (suc i) 0
+
+-- from ordinal k on, where `found` runs state at most k rows before them
+unfoldable pub restAt : ℕ → List ℕ → ℕ → ℕ → ℕ → List ℕ
+restAt w xs n k zero = []
+restAt w xs n k (suc i) = runsFrom w xs (n - i) i (k - runBefore w xs i)
+
+unfoldable pub runsRest : ℕ → List ℕ → ℕ → ℕ → List ℕ
+runsRest w xs n k = restAt w xs n k (beforeTo w xs n k)
+
+-- as many as fit, counted from base
+unfoldable pub runsWalk : ℕ → List ℕ → ℕ → ℕ → ℕ → ℕ → List ℕ
+runsWalk w xs n k base room = moved base (take room (runsRest w xs n k))

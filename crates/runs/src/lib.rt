@@ -1,0 +1,110 @@
+// The local form runs. A run is read at either width by the same functions: its start has 4 bytes where `wide`, else 2.
+use model::Place;
+ghost use mathlib.Core.Path.{_≡_};
+ghost use Prim.Native.Nat.{ℕ, _+_, _*_, _/_, _^_, _≤_, _<_, min};
+ghost use lib.ListN.{length};
+ghost use Rattle.fields.specs.Le.{widthOf};
+ghost use Rattle.runs.specs.Runs.{strideOf, fits, mostOf, runsStand, runsAccepts};
+ghost use Rattle.runs.specs.Asked.{entryOf};
+
+// Start, length and rows before of a run.
+pub struct Entry {
+    pub start: u32,
+    pub size: u16,
+    pub before: u16,
+}
+
+// The bytes of a start.
+fn width(wide: bool) -> usize
+    ensures { λ r. ⌜ (r ≡ widthOf wide) × (r ≤ 4) ⌝ }
+{
+    if wide { 4 } else { 2 }
+}
+
+// How many entries so many bytes hold.
+pub fn runs_in(bytes: usize, wide: bool) -> usize
+    ensures { λ r. ⌜ r ≡ bytes / strideOf (widthOf wide) ⌝ }
+{
+    if wide { bytes / 8 } else { bytes / 6 }
+}
+
+// Where entry i lies. Each arm multiplies by a number, so that neither asks for a product of variables.
+fn offset(i: usize, wide: bool) -> usize
+    requires { ⌜ i * strideOf (widthOf wide) < 2 ^ 64 ⌝ }
+    ensures { λ r. ⌜ r ≡ i * strideOf (widthOf wide) ⌝ }
+{
+    if wide { i * 8 } else { i * 6 }
+}
+
+// Entry i.
+pub fn read(body: &[u8], i: usize, wide: bool) -> Entry
+    requires { ⌜ (i + 1) * strideOf (widthOf wide) ≤ length (now body) ⌝ }
+    ensures { λ r. ⌜ r ≡ entryOf (widthOf wide) (now (body .entry)) i ⌝ }
+{
+    let at = offset(i, wide);
+    let w = width(wide);
+    Entry {
+        start: fields::field(body, at, wide),
+        size: fields::read16(body, w + at),
+        before: fields::read16(body, w + 2 + at),
+    }
+}
+
+// The most that a run's end may be.
+fn most(span: u32, wide: bool) -> u64
+    ensures { λ r. ⌜ r ≡ mostOf (widthOf wide) span ⌝ }
+{
+    if wide {
+        return span as u64;
+    }
+    if span < 65536 { span as u64 } else { 65536 }
+}
+
+// Whether a run starts at `low` or after, has a row, ends at `most` or before, and states `rows` before it.
+fn fits(e: Entry, low: u64, rows: u64, most: u64) -> bool
+    ensures { λ r. ⌜ r ≡ fits (e .start) (e .size) (e .before) low rows most ⌝ }
+{
+    let start = e.start as u64;
+    (low <= start) & ((1 <= e.size) & ((start + e.size as u64 <= most) & (e.before as u64 == rows)))
+}
+
+// Whether the runs stand apart within `end`, each states the rows before it, and all have count rows. No early exit.
+fn stand(body: &[u8], runs: u16, end: u64, count: u16, wide: bool) -> bool
+    requires { ⌜ runs * strideOf (widthOf wide) ≤ length (now body) ⌝ }
+    ensures { λ r. ⌜ r ≡ runsStand (widthOf wide) (now (body .entry)) end count runs ⌝ }
+{
+    let mut ok = true;
+    let mut low: u64 = 0;
+    let mut rows: u64 = 0;
+    let mut i = 0;
+    while i < runs {
+        let e = read(body, i as usize, wide);
+        let start = e.start as u64;
+        let size = e.size as u64;
+        ok = ok & fits(e, low, rows, end);
+        low = start + size + 1;
+        rows += size;
+        i += 1;
+    }
+    ok & (rows == count as u64)
+}
+
+// A body of more runs than count has too many rows, so that it is refused unread.
+pub fn check(body: &[u8], span: u32, count: u16, wide: bool) -> bool
+    ensures { λ r. ⌜ r ≡ runsAccepts (widthOf wide) (now (body .entry)) span count ⌝ }
+{
+    let runs = runs_in(body.len(), wide);
+    if count == 0 {
+        return false;
+    }
+    if span < count as u32 {
+        return false;
+    }
+    if (count as usize) < runs {
+        return false;
+    }
+    if offset(runs, wide) != body.len() {
+        return false;
+    }
+    stand(body, runs as u16, most(span, wide), count, wide)
+}
