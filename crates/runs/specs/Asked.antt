@@ -22,45 +22,37 @@ startsTo w xs n p = find (upTo false (runStart w xs) p) 0 n
 unfoldable pub beforeTo : ℕ → List ℕ → ℕ → ℕ → ℕ
 beforeTo w xs n k = find (upTo false (runBefore w xs) k) 0 n
 
--- ---- the place of a position
+-- what the last of k runs answers, or what no run answers
+unfoldable pub lastOf : {A : Type 0} → A → (ℕ → A) → ℕ → A
+lastOf none of zero = none
+lastOf none of (suc i) = of i
 
--- by the last run that starts at p or before
+-- ---- the place of a position, by the last run that starts at p or before
+
 unfoldable pub placeIn : Entry → ℕ → Place
 placeIn e p = record { below = e .before + min (p - e .start) (e .size); present = ltb (p - e .start) (e .size) }
 
-unfoldable pub placeAt : ℕ → List ℕ → ℕ → ℕ → Place
-placeAt w xs p zero = record { below = 0; present = false }
-placeAt w xs p (suc i) = placeIn (entryOf w xs i) p
-
 unfoldable pub runsPlace : ℕ → List ℕ → ℕ → ℕ → Place
-runsPlace w xs n p = placeAt w xs p (startsTo w xs n p)
+runsPlace w xs n p = lastOf (record { below = 0; present = false }) (λ (i : ℕ). placeIn (entryOf w xs i) p) (startsTo w xs n p)
 
--- ---- the position of an ordinal, in 32 bits
+-- ---- the position of an ordinal, in 32 bits, by the last run with at most k rows before it
 
 unfoldable pub nthOf : Entry → ℕ → ℕ
 nthOf e k = (e .start + (k - e .before)) % 4294967296
 
-unfoldable pub selectAt : ℕ → List ℕ → ℕ → ℕ → ℕ
-selectAt w xs k zero = 0
-selectAt w xs k (suc i) = nthOf (entryOf w xs i) k
-
 unfoldable pub runsSelect : ℕ → List ℕ → ℕ → ℕ → ℕ
-runsSelect w xs n k = selectAt w xs k (beforeTo w xs n k)
+runsSelect w xs n k = lastOf 0 (λ (i : ℕ). nthOf (entryOf w xs i) k) (beforeTo w xs n k)
 
--- ---- the walk
+-- ---- the walk, from that run on
 
 -- the positions of m runs from run i on, the first skip of run i left out
 unfoldable pub runsFrom : ℕ → List ℕ → ℕ → ℕ → ℕ → List ℕ
 runsFrom w xs zero i skip = []
 runsFrom w xs (suc m) i skip = range (runStart w xs i + skip) (runSize w xs i - skip) ++ runsFrom w xs m (suc i) 0
 
--- from ordinal k on, where `found` runs state at most k rows before them
-unfoldable pub restAt : ℕ → List ℕ → ℕ → ℕ → ℕ → List ℕ
-restAt w xs n k zero = []
-restAt w xs n k (suc i) = runsFrom w xs (n - i) i (k - runBefore w xs i)
-
+-- the positions from ordinal k on
 unfoldable pub runsRest : ℕ → List ℕ → ℕ → ℕ → List ℕ
-runsRest w xs n k = restAt w xs n k (beforeTo w xs n k)
+runsRest w xs n k = lastOf [] (λ (i : ℕ). runsFrom w xs (n - i) i (k - runBefore w xs i)) (beforeTo w xs n k)
 
 -- as many as fit, counted from base
 unfoldable pub runsWalk : ℕ → List ℕ → ℕ → ℕ → ℕ → ℕ → List ℕ

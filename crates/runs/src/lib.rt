@@ -5,7 +5,7 @@ ghost use Prim.Native.Nat.{ℕ, _+_, _*_, _/_, _^_, _≤_, _<_, min};
 ghost use lib.ListN.{length};
 ghost use Rattle.fields.specs.Le.{widthOf};
 ghost use Rattle.runs.specs.Runs.{strideOf, fits, mostOf, runsStand, runsAccepts};
-ghost use Rattle.runs.specs.Asked.{entryOf};
+ghost use Rattle.runs.specs.Asked.{entryOf, startsTo, beforeTo, placeIn, runsPlace, nthOf, runsSelect};
 
 // Start, length and rows before of a run.
 pub struct Entry {
@@ -107,4 +107,74 @@ pub fn check(body: &[u8], span: u32, count: u16, wide: bool) -> bool
         return false;
     }
     stand(body, runs as u16, most(span, wide), count, wide)
+}
+
+// How many runs start at p or before.
+fn starts_to(body: &[u8], runs: usize, p: u32, wide: bool) -> usize
+    requires { ⌜ runs * strideOf (widthOf wide) ≤ length (now body) ⌝ }
+    ensures { λ r. ⌜ r ≡ startsTo (widthOf wide) (now (body .entry)) runs p ⌝ }
+{
+    search::upper(body, 0, width(wide) + 4, runs, p, wide, false)
+}
+
+// How many runs state at most k rows before them.
+fn before_to(body: &[u8], runs: usize, k: u16, wide: bool) -> usize
+    requires { ⌜ runs * strideOf (widthOf wide) ≤ length (now body) ⌝ }
+    ensures { λ r. ⌜ r ≡ beforeTo (widthOf wide) (now (body .entry)) runs k ⌝ }
+{
+    let w = width(wide);
+    search::upper(body, w + 2, w + 4, runs, k as u32, false, false)
+}
+
+// The place of p by the last run that starts at p or before.
+fn place_in(e: Entry, p: u32) -> Place
+    requires { ⌜ e .start ≤ p ⌝ }
+    ensures { λ r. ⌜ r ≡ placeIn e p ⌝ }
+{
+    let past = p - e.start;
+    let size = e.size as u32;
+    if past < size {
+        Place {
+            below: e.before as u32 + past,
+            present: true,
+        }
+    } else {
+        Place {
+            below: e.before as u32 + size,
+            present: false,
+        }
+    }
+}
+
+pub fn place(body: &[u8], runs: usize, p: u32, wide: bool) -> Place
+    requires { ⌜ runs * strideOf (widthOf wide) ≤ length (now body) ⌝ }
+    ensures { λ r. ⌜ r ≡ runsPlace (widthOf wide) (now (body .entry)) runs p ⌝ }
+{
+    let found = starts_to(body, runs, p, wide);
+    if found == 0 {
+        return Place {
+            below: 0,
+            present: false,
+        };
+    }
+    place_in(read(body, found - 1, wide), p)
+}
+
+// The position of ordinal k in its run.
+fn nth(e: Entry, k: u16) -> u32
+    requires { ⌜ e .before ≤ k ⌝ }
+    ensures { λ r. ⌜ r ≡ nthOf e k ⌝ }
+{
+    std::num::wrapping_add_u32(e.start, (k - e.before) as u32)
+}
+
+pub fn select(body: &[u8], runs: usize, k: u16, wide: bool) -> u32
+    requires { ⌜ runs * strideOf (widthOf wide) ≤ length (now body) ⌝ }
+    ensures { λ r. ⌜ r ≡ runsSelect (widthOf wide) (now (body .entry)) runs k ⌝ }
+{
+    let found = before_to(body, runs, k, wide);
+    if found == 0 {
+        return 0;
+    }
+    nth(read(body, found - 1, wide), k)
 }
