@@ -1,11 +1,13 @@
 // The local form runs. A run is read at either width by the same functions: its start has 4 bytes where `wide`, else 2.
 use model::Place;
 ghost use mathlib.Core.Path.{_≡_};
-ghost use Prim.Native.Nat.{ℕ, _+_, _*_, _/_, _^_, _≤_, _<_, min};
-ghost use lib.ListN.{length};
+ghost use Prim.Native.Nat.{ℕ, _+_, _-_, _*_, _/_, _^_, _≤_, _<_, min};
+ghost use lib.ListN.{length, take};
+ghost use lib.Seq.{sets};
+ghost use Rattle.model.specs.Lists.{range, moved};
 ghost use Rattle.fields.specs.Le.{widthOf};
 ghost use Rattle.runs.specs.Runs.{strideOf, fits, mostOf, runsStand, runsAccepts};
-ghost use Rattle.runs.specs.Asked.{entryOf, startsTo, beforeTo, placeIn, runsPlace, nthOf, runsSelect};
+ghost use Rattle.runs.specs.Asked.{entryOf, startsTo, beforeTo, placeIn, runsPlace, nthOf, runsSelect, runsFrom, runsWalk, Walked};
 
 // Start, length and rows before of a run.
 pub struct Entry {
@@ -177,4 +179,71 @@ pub fn select(body: &[u8], runs: usize, k: u16, wide: bool) -> u32
         return 0;
     }
     nth(read(body, found - 1, wide), k)
+}
+
+// What is left of a run after `skip` positions, as much as there is room for.
+fn fewer(size: u16, skip: u16, room: usize) -> usize
+    ensures { λ r. ⌜ r ≡ min (size - skip) room ⌝ }
+{
+    if size <= skip {
+        return 0;
+    }
+    let left = (size - skip) as usize;
+    if left < room { left } else { room }
+}
+
+// Writes a run without its first `skip` positions from out[at] on, as much as fits, and answers how much.
+fn write_run(e: Entry, skip: u16, base: u32, out: &mut [u32], at: usize) -> usize
+    requires { ⌜ at ≤ length (now out) ⌝ }
+    ensures { λ r. ⌜ (r ≡ min (e .size - skip) (length (now (out .entry)) - at)) × (now (out .exit) ≡ sets (now (out .entry)) at (moved base (range (e .start + skip) r))) ⌝ }
+{
+    let n = fewer(e.size, skip, out.len() - at);
+    let first = std::num::wrapping_add_u32(std::num::wrapping_add_u32(base, e.start), skip as u32);
+    let mut j = 0;
+    while j < n {
+        out[at + j] = std::num::wrapping_add_u32(first, j as u32);
+        j += 1;
+    }
+    n
+}
+
+// Writes the positions from run `first` on without its first `skip`, as many as fit, and answers how many.
+fn walk_from(
+    body: &[u8],
+    runs: usize,
+    first: usize,
+    skip: u16,
+    base: u32,
+    out: &mut [u32],
+    wide: bool,
+) -> usize
+    requires { ⌜ runs * strideOf (widthOf wide) ≤ length (now body) ⌝ }
+    ensures { λ r. ⌜ Walked (moved base (take (length (now (out .entry))) (runsFrom (widthOf wide) (now (body .entry)) (runs - first) first skip))) (now (out .entry)) (now (out .exit)) r ⌝ }
+{
+    let end = out.len();
+    let mut left = skip;
+    let mut done = 0;
+    let mut i = first;
+    while i < runs {
+        done += write_run(read(body, i, wide), left, base, out, done);
+        if done == end {
+            return done;
+        }
+        left = 0;
+        i += 1;
+    }
+    done
+}
+
+// The run of ordinal `from` is found once; from there on the walk goes run by run.
+pub fn walk(body: &[u8], runs: usize, from: u16, base: u32, out: &mut [u32], wide: bool) -> usize
+    requires { ⌜ runs * strideOf (widthOf wide) ≤ length (now body) ⌝ }
+    ensures { λ r. ⌜ Walked (runsWalk (widthOf wide) (now (body .entry)) runs from base (length (now (out .entry)))) (now (out .entry)) (now (out .exit)) r ⌝ }
+{
+    let found = before_to(body, runs, from, wide);
+    if found == 0 {
+        return 0;
+    }
+    let skip = from - read(body, found - 1, wide).before;
+    walk_from(body, runs, found - 1, skip, base, out, wide)
 }
