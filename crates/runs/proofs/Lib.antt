@@ -2,3 +2,4 @@ pub mod Table
 pub mod Parts
 pub mod Found
 pub mod Filling
+pub mod Names
