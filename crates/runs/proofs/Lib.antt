@@ -3,3 +3,4 @@ pub mod Parts
 pub mod Found
 pub mod Filling
 pub mod Names
+pub mod Back

@@ -23,7 +23,7 @@ use Rattle.search.specs.Search.{find, upTo, allowed, Falling, Cut}
 use Rattle.search.proofs.Laws.{find-cut, falls-level}
 use Rattle.runs.specs.Runs.{strideOf, runStart, runSize, runBefore, total, runsNames, least, mostOf}
 use Rattle.runs.specs.Asked.{entryOf, startsTo, beforeTo, lastOf, placeIn, runsPlace, nthOf, runsSelect, runsFrom, runsRest, runsWalk}
-use Rattle.runs.proofs.Parts.{Fit, Parts}
+use Rattle.runs.proofs.Parts.{Fit, Parts, some-run}
 
 -- the positions of run i
 abbrev piece : ℕ → List ℕ → ℕ → List ℕ
@@ -54,10 +54,6 @@ total-le f i (suc n) h =
 -- ---- on an accepted body
 
 module _ {w : ℕ} {xs : List ℕ} {span count n : ℕ} (p : Parts w xs span count n) where
-  some-run : 0 < n
-  unfolding total
-  some-run = ⊎-elim (λ l. l) (λ (g : n ≤ 0). let e : n ≡ 0 = omega arith in omega (arith, p .some, rw e at (p .sum))) (order 0 n)
-
   -- a run ends before the next starts
   ends-before : (i j : ℕ) → i < j → j < n → runStart w xs i + runSize w xs i < runStart w xs j
   unfolding least

@@ -11,7 +11,7 @@ use lib.Dec.{leb, eqb}
 use lib.ListN.{length}
 use borrow.Author.Tests.{leb-true, eqb-true, le-leb, lt-leb, eq-eqb, ne-eqb}
 use Rattle.model.specs.Tests.{both, all}
-use Rattle.model.proofs.Tests.{either, never, both-true, both-left, both-right, both-first, both-second, all-at, all-from}
+use Rattle.model.proofs.Tests.{either, order, both-true, both-left, both-right, both-first, both-second, all-at, all-from}
 use Rattle.search.specs.Search.{entry}
 use Rattle.runs.specs.Runs.{strideOf, runCount, runStart, runSize, runBefore, total, least, fits, runFits, mostOf, runsStand, runsAccepts}
 
@@ -76,6 +76,10 @@ total-least f (suc n) h = omega (arith, total-least f n (λ i l. h i (omega arit
 
 pub parts-few : {w : ℕ} {xs : List ℕ} {span count n : ℕ} → Parts w xs span count n → n ≤ count
 parts-few {w} {xs} {n = n} p = rw (p .sum) at (total-least (runSize w xs) n (λ i l. p .fit i l .filled))
+
+pub some-run : {w : ℕ} {xs : List ℕ} {span count n : ℕ} → Parts w xs span count n → 0 < n
+unfolding total
+some-run {n = n} p = ⊎-elim (λ l. l) (λ (g : n ≤ 0). let e : n ≡ 0 = omega arith in omega (arith, p .some, rw e at (p .sum))) (order 0 n)
 
 -- ---- the answers of the check
 
