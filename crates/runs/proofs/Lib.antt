@@ -4,3 +4,4 @@ pub mod Found
 pub mod Filling
 pub mod Names
 pub mod Back
+pub mod Laid
