@@ -5,3 +5,4 @@ pub mod Filling
 pub mod Names
 pub mod Back
 pub mod Laid
+pub mod Examples
