@@ -1,22 +1,22 @@
 -- An accepted body of runs is the layout of what it names.
 -- Assumes nothing.
-use mathlib.Core.Path.{_≡_, refl, sym, ap, _∙_}
+use mathlib.Core.Path.{_≡_, sym, ap, _∙_}
 use mathlib.Core.List.{List, [], _∷_, _++_, append-assoc, append-nil}
 use Prim.Native.Nat.{ℕ, zero, suc, _+_, _-_, _*_, _<_, _≤_}
-use native.Mathlib.Nat.{zero-add, add-zero, add-assoc, suc-mul, zero-mul, mul-le-mul-right, le-trans}
+use native.Mathlib.Nat.{zero-add, add-zero, add-assoc, suc-mul, zero-mul}
 use native.Mathlib.Omega.{arith}
 use lib.ListN.{length, take, drop, length-append}
 use lib.Seq.{take-add, drop-drop, take-all}
 use Rattle.fields.specs.Le.{Bytes, le, digits}
 use Rattle.fields.proofs.Laws.{digits-le}
 use Rattle.model.specs.Tests.{tabulate}
-use Rattle.model.specs.Lists.{range, Run, run, spread, runsOf, Apart, stop, next}
+use Rattle.model.specs.Lists.{range, Run, spread, Apart, stop, next}
 use Rattle.model.proofs.Ranges.{length-range}
 use Rattle.model.proofs.Runs.{runsOf-spread, spread-tabulate}
 use Rattle.search.specs.Search.{entry}
-use Rattle.runs.specs.Runs.{strideOf, runStart, runSize, runBefore, total, runAt, runsNames, least, mostOf, runsBytes, runsLayout}
+use Rattle.runs.specs.Runs.{strideOf, runStart, runSize, runBefore, runAt, runsNames, least, runsBytes, runsLayout}
 use Rattle.runs.proofs.Table.{inside}
-use Rattle.runs.proofs.Parts.{Fit, Parts, some-run}
+use Rattle.runs.proofs.Parts.{Parts, some-run}
 use Rattle.runs.proofs.Names.{names-total}
 
 -- what n runs name is what they spread to

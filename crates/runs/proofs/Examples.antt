@@ -5,11 +5,10 @@ use mathlib.Core.Bool.{true, false}
 use mathlib.Core.List.{List, [], _∷_, _++_}
 use Prim.Native.Nat.{ℕ}
 use Rattle.fields.specs.Le.{le, digits}
-use Rattle.model.specs.Tests.{both, pick, all, flat}
-use Rattle.model.specs.Lists.{range, runsOf, onto, moved, has, below, placeOf}
-use Rattle.model.specs.declared.Place.{Place}
+use Rattle.model.specs.Tests.{both, pick, all, flat, total}
+use Rattle.model.specs.Lists.{counted, range, runsOf, onto, moved}
 use Rattle.search.specs.Search.{entry, bsearch, find, upTo, allowed}
-use Rattle.runs.specs.Runs.{runCount, runsNames, total, least, fits, runFits, mostOf, runsStand, runsAccepts, runsBytes, runsLayout}
+use Rattle.runs.specs.Runs.{runCount, runsNames, least, fits, runFits, mostOf, runsStand, runsAccepts, runsBytes, runsLayout}
 use Rattle.runs.specs.Asked.{entryOf, startsTo, beforeTo, lastOf, placeIn, runsPlace, nthOf, runsSelect, runsFrom, runsRest, runsWalk}
 
 -- [0,200), 10 to 19 and 100 to 109
@@ -24,7 +23,7 @@ unfolding digits pick range runsOf onto runsBytes runsLayout
 two-layout = refl
 
 two-accepted : runsAccepts 2 two 200 20 ≡ true
-unfolding le both all entry runCount total least fits runFits mostOf runsStand runsAccepts
+unfolding le both all counted entry runCount total least fits runFits mostOf runsStand runsAccepts
 two-accepted = refl
 
 two-names : runsNames 2 two 2 ≡ rows
@@ -56,18 +55,18 @@ wide-layout = refl
 
 -- [0,10): runs that touch are refused; with the second start 3 they are accepted
 touching : runsAccepts 2 (0 ∷ 0 ∷ 2 ∷ 0 ∷ 0 ∷ 0 ∷ 2 ∷ 0 ∷ 2 ∷ 0 ∷ 2 ∷ 0 ∷ []) 10 4 ≡ false
-unfolding le both all entry runCount total least fits runFits mostOf runsStand runsAccepts
+unfolding le both all counted entry runCount total least fits runFits mostOf runsStand runsAccepts
 touching = refl
 
 apart : runsAccepts 2 (0 ∷ 0 ∷ 2 ∷ 0 ∷ 0 ∷ 0 ∷ 3 ∷ 0 ∷ 2 ∷ 0 ∷ 2 ∷ 0 ∷ []) 10 4 ≡ true
-unfolding le both all entry runCount total least fits runFits mostOf runsStand runsAccepts
+unfolding le both all counted entry runCount total least fits runFits mostOf runsStand runsAccepts
 apart = refl
 
 -- a run may end at 65,536, and not after
 last-position : runsAccepts 2 (255 ∷ 255 ∷ 1 ∷ 0 ∷ 0 ∷ 0 ∷ []) 65536 1 ≡ true
-unfolding le both all entry runCount total least fits runFits mostOf runsStand runsAccepts
+unfolding le both all counted entry runCount total least fits runFits mostOf runsStand runsAccepts
 last-position = refl
 
 past-the-last : runsAccepts 2 (255 ∷ 255 ∷ 2 ∷ 0 ∷ 0 ∷ 0 ∷ []) 65540 2 ≡ false
-unfolding le both all entry runCount total least fits runFits mostOf runsStand runsAccepts
+unfolding le both all counted entry runCount total least fits runFits mostOf runsStand runsAccepts
 past-the-last = refl

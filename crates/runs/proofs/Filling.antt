@@ -2,19 +2,19 @@
 -- Assumes nothing.
 use mathlib.Core.Path.{_≡_, refl, sym, ap, _∙_}
 use mathlib.Core.List.{List, [], _∷_, _++_, append-assoc, append-nil}
-use Prim.Native.Nat.{ℕ, zero, suc, _+_, _-_, _*_, _%_, _<_, _≤_, min}
-use native.Mathlib.Nat.{zero-add, add-zero, suc-add, add-suc}
+use Prim.Native.Nat.{ℕ, zero, suc, _+_, _-_, _%_, _<_, _≤_, min}
+use native.Mathlib.Nat.{zero-add, add-zero, add-suc}
 use native.Mathlib.Numerals.{add-one}
 use native.Mathlib.Omega.{arith}
-use lib.ListN.{length, take, drop, set, length-append, length-drop, length-take}
-use lib.Seq.{sets, length-sets, sets-eq, take-all, take-add, drop-drop, length-take-le, take-append-seam, drop-append-seam, take-nil}
+use lib.ListN.{length, take, drop, set, length-append, length-drop}
+use lib.Seq.{sets, take-all, take-add, drop-drop, length-take-le, take-append-seam, drop-append-seam, take-nil}
 use Rattle.fields.proofs.Laws.{sets-append}
 use Rattle.model.specs.Lists.{range, moved}
-use Rattle.model.specs.Answers.{over}
+use Rattle.model.specs.Answers.{over, Walked}
 use Rattle.model.proofs.Ranges.{length-range, range-append}
 use Rattle.model.proofs.Writing.{length-moved, moved-append, over-none, over-length, over-next}
 use Rattle.runs.specs.Runs.{runStart, runSize, runBefore}
-use Rattle.runs.specs.Asked.{entryOf, beforeTo, runsFrom, runsRest, runsWalk, Walked}
+use Rattle.runs.specs.Asked.{entryOf, beforeTo, runsFrom, runsRest, runsWalk}
 use Rattle.runs.specs.declared.Entry.{Entry}
 use Rattle.runs.proofs.Found.{last-none, last-some}
 
@@ -78,13 +78,13 @@ module _ {base : ℕ} {rows before after : List ℕ} {done : ℕ} (f : Filled ba
       }
 
   pub filled-full : done ≡ length before → Walked (moved base (take (length before) rows)) before after done
-  filled-full e = rw (← e) (record { wrote = f .holds; many = sym front-length })
+  filled-full e = rw (← e) (record { written = f .holds; number = sym front-length })
 
   pub filled-end : drop done rows ≡ [] → Walked (moved base (take (length before) rows)) before after done
   filled-end e =
       let n : length rows - done ≡ 0 = sym (length-drop done rows) ∙ ap length e in
       let t : take (length before) rows ≡ take done rows = take-all (length before) rows (omega (arith, f .room)) ∙ sym (take-all done rows (omega arith)) in
-      rw t (record { wrote = f .holds; many = sym front-length })
+      rw t (record { written = f .holds; number = sym front-length })
 
 -- ---- the walk at run i, of which `left` positions are to be left out
 
@@ -142,7 +142,7 @@ module _ {w : ℕ} {xs : List ℕ} {n base : ℕ} {rows before after : List ℕ}
 pub walked-none : (w : ℕ) (xs : List ℕ) (n k base : ℕ) (out : List ℕ) {found : ℕ} → found ≡ beforeTo w xs n k → found ≡ 0 → Walked (runsWalk w xs n k base (length out)) out out 0
 unfolding runsWalk runsRest moved over
 walked-none w xs n k base out e z =
-    rw (← last-none [] (λ (i : ℕ). runsFrom w xs (n - i) i (k - runBefore w xs i)) e z, take-nil) (record { wrote = refl; many = refl })
+    rw (← last-none [] (λ (i : ℕ). runsFrom w xs (n - i) i (k - runBefore w xs i)) e z, take-nil) (record { written = refl; number = refl })
 
 pub walked-rest : (w : ℕ) (xs : List ℕ) (n k base : ℕ) {before after : List ℕ} {found r : ℕ} {e : Entry} → found ≡ beforeTo w xs n k → (found ≡ 0 → ⊥) → e ≡ entryOf w xs (found - 1)
     → Walked (moved base (take (length before) (runsFrom w xs (n - (found - 1)) (found - 1) (k - e .before)))) before after r → Walked (runsWalk w xs n k base (length before)) before after r

@@ -1,19 +1,15 @@
 -- What the two searches of a table of runs find, on any bytes.
 -- Assumes nothing.
-use mathlib.Core.Path.{_≡_, refl, sym, ap, _∙_}
-use mathlib.Core.Bool.{Bool, true, false}
-use mathlib.Core.List.{List}
-use Prim.Native.Nat.{ℕ, zero, suc, _+_, _-_, _*_, _<_, _≤_, min}
-use native.Mathlib.Nat.{add-comm, add-assoc}
+use mathlib.Core.Path.{_≡_, sym, ap}
+use mathlib.Core.Bool.{true, false}
+use Prim.Native.Nat.{ℕ, suc, _+_, _-_, _*_, _<_, _≤_, min}
 use native.Mathlib.Omega.{arith}
-use lib.Dec.{ltb, leb}
-use lib.ListN.{length}
 use borrow.Author.Tests.{leb-true, lt-ltb, le-ltb}
 use Rattle.model.specs.declared.Place.{Place}
-use Rattle.search.specs.Search.{find, entry, upTo, allowed}
+use Rattle.search.specs.Search.{find, upTo, allowed}
 use Rattle.search.proofs.Laws.{find-hit, find-within}
-use Rattle.runs.specs.Runs.{strideOf, runStart, runBefore}
-use Rattle.runs.specs.Asked.{entryOf, startsTo, beforeTo, lastOf, placeIn}
+use Rattle.runs.specs.Runs.{strideOf}
+use Rattle.runs.specs.Asked.{lastOf, placeIn}
 use Rattle.runs.specs.declared.Entry.{Entry}
 use Rattle.runs.proofs.Table.{inside}
 
@@ -32,7 +28,6 @@ pub last-some : {A : Type 0} (none : A) (of : ℕ → A) {found k : ℕ} → fou
 unfolding lastOf
 last-some none of {found} e n =
     let q : found ≡ suc (found - 1) = omega (arith, n) in
-    let r : found - 1 ≡ found - 1 = refl in
     rw (← e) (ap (λ (m : ℕ). lastOf none of m) (sym q))
 
 -- ---- on any table: it is one of the n, and it is at most the key

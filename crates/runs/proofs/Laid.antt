@@ -1,23 +1,23 @@
 -- The layout of a rising list that fits is accepted, and names the list.
 -- Assumes nothing.
-use mathlib.Core.Path.{_≡_, refl, sym, ap, ap₂, _∙_}
-use mathlib.Core.Bool.{Bool, true, false}
-use mathlib.Core.List.{List, [], _∷_, _++_, append-assoc, append-nil}
-use Prim.Native.Nat.{ℕ, zero, suc, _+_, _-_, _*_, _/_, _%_, _^_, _<_, _≤_, min}
-use native.Mathlib.Nat.{zero-add, add-zero, add-assoc, zero-mul, suc-mul, mul-div-cancel, mod-eq-of-lt}
+use mathlib.Core.Path.{_≡_, refl, sym, ap, _∙_}
+use mathlib.Core.Bool.{true}
+use mathlib.Core.List.{List, [], _∷_, _++_, append-assoc}
+use Prim.Native.Nat.{ℕ, zero, suc, _+_, _-_, _*_, _%_, _^_, _<_, _≤_}
+use native.Mathlib.Nat.{zero-add, add-zero, zero-mul, suc-mul, mul-div-cancel, mod-eq-of-lt}
 use native.Mathlib.Omega.{arith}
 use lib.ListN.{length, getD, length-append, List·getD-append}
 use lib.Seq.{getD-append-add, ext-getD}
 use Rattle.fields.specs.Le.{le, digits}
 use Rattle.fields.proofs.Laws.{le-same, le-digits, length-digits}
-use Rattle.model.specs.Tests.{tabulate}
+use Rattle.model.specs.Tests.{tabulate, total}
 use Rattle.model.specs.Lists.{Rising, range, Run, run, spread, runsOf, Apart, stop, next}
 use Rattle.model.proofs.Tests.{length-tabulate, getD-tabulate}
 use Rattle.model.proofs.Rising.{rising-room}
 use Rattle.model.proofs.Ranges.{length-range}
 use Rattle.model.proofs.Runs.{spread-runsOf, apart-runsOf, spread-rising}
 use Rattle.search.specs.Search.{entry}
-use Rattle.runs.specs.Runs.{strideOf, runCount, runStart, runSize, runBefore, total, runAt, runsNames, least, mostOf, runsAccepts, runsBytes, runsLayout}
+use Rattle.runs.specs.Runs.{strideOf, runCount, runStart, runSize, runBefore, runAt, runsNames, least, mostOf, runsAccepts, runsBytes, runsLayout}
 use Rattle.runs.proofs.Parts.{Fit, Parts, parts-accepts}
 use Rattle.runs.proofs.Names.{total-le}
 use Rattle.runs.proofs.Back.{names-spread}
@@ -161,8 +161,7 @@ module _ (w span : ℕ) {rs : List Run} (a : Apart 0 (mostOf w span) rs) (some :
   unfolding mostOf
   bytes-parts =
       record {
-        some = some;
-        few = omega (arith, rising-room (omega arith) (spread-rising a));
+        counts = record { some = some; within = omega (arith, rising-room (omega arith) (spread-rising a)); most = few };
         sized = sym (length-bytes w 0 rs);
         fit = fit-at;
         sum = totals (length rs) (omega arith) ∙ sizes-total rs;

@@ -1,29 +1,28 @@
 -- On an accepted body of runs: what it names rises below the span and has count rows, and place, select and walk are those of that list.
 -- Assumes nothing.
 use mathlib.Core.Path.{_≡_, refl, sym, ap, _∙_}
-use mathlib.Core.Bool.{Bool, true, false}
+use mathlib.Core.Bool.{true, false}
 use mathlib.Core.Logic.{_⊎_, ⊎-elim, inl, inr}
-use mathlib.Core.List.{List, [], _∷_, _++_, append-assoc, append-nil}
-use Prim.Native.Nat.{ℕ, zero, suc, _+_, _-_, _*_, _%_, _^_, _<_, _≤_, min}
-use native.Mathlib.Nat.{add-zero, add-suc, suc-add, sub-zero, mod-eq-of-lt}
+use mathlib.Core.List.{List, [], _++_, append-assoc, append-nil}
+use Prim.Native.Nat.{ℕ, zero, suc, _+_, _-_, _%_, _<_, _≤_}
+use native.Mathlib.Nat.{add-zero, sub-zero, mod-eq-of-lt}
 use native.Mathlib.Omega.{arith}
-use lib.Dec.{ltb, leb}
-use lib.ListN.{length, getD, take, drop, drop-of-length-le}
+use lib.Dec.{ltb}
+use lib.ListN.{length, getD, drop}
 use lib.Seq.{drop-append-add, drop-append-le}
-use borrow.Author.Tests.{leb-true, leb-false, le-leb, lt-ltb, le-ltb}
-use Rattle.model.specs.Tests.{flat}
+use borrow.Author.Tests.{leb-true, leb-false, lt-ltb, le-ltb}
+use Rattle.model.specs.Tests.{flat, total}
 use Rattle.model.specs.Lists.{Rising, below, has, placeOf, walkOf, range, moved}
-use Rattle.model.specs.declared.Place.{Place}
-use Rattle.model.proofs.Tests.{order, never, last-or-before, flat-length-step}
+use Rattle.model.proofs.Tests.{order, last-or-before, flat-length-step}
 use Rattle.model.proofs.Rising.{rising-wider}
 use Rattle.model.proofs.Standing.{has-outside}
 use Rattle.model.proofs.Ranges.{length-range, getD-range, range-rising, range-drop, below-range, has-range}
 use Rattle.model.proofs.Pieces.{Pieces, pieces-rising, pieces-none, pieces-place, pieces-select}
-use Rattle.search.specs.Search.{find, upTo, allowed, Falling, Cut}
+use Rattle.search.specs.Search.{upTo, allowed, Cut}
 use Rattle.search.proofs.Laws.{find-cut, falls-level}
-use Rattle.runs.specs.Runs.{strideOf, runStart, runSize, runBefore, total, runsNames, least, mostOf}
+use Rattle.runs.specs.Runs.{runStart, runSize, runBefore, runsNames, least, mostOf}
 use Rattle.runs.specs.Asked.{entryOf, startsTo, beforeTo, lastOf, placeIn, runsPlace, nthOf, runsSelect, runsFrom, runsRest, runsWalk}
-use Rattle.runs.proofs.Parts.{Fit, Parts, some-run}
+use Rattle.runs.proofs.Parts.{Parts, some-run}
 
 -- the positions of run i
 abbrev piece : ℕ → List ℕ → ℕ → List ℕ
@@ -187,7 +186,7 @@ module _ {w : ℕ} {xs : List ℕ} {span count n : ℕ} (p : Parts w xs span cou
       (λ (o : s < z). drop-append-le s (range x z) r (rw length-range (omega arith)) ∙ rw range-drop)
       (λ (q : suc i ≡ n).
       let t : m ≡ 0 = omega arith in
-      rw (t, append-nil, append-nil) (range-drop x z s))
+      rw (t, append-nil (range x z), append-nil) (range-drop x z s))
       (holds k i c) in
       rw g (sym (left ∙ cut))
 

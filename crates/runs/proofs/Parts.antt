@@ -1,19 +1,17 @@
 -- An accepted body of runs taken apart, and what the check's early answers are of the whole test.
 -- Assumes nothing.
-use mathlib.Core.Path.{_≡_, refl, sym, ap, _∙_}
+use mathlib.Core.Path.{_≡_, sym, ap, _∙_}
 use mathlib.Core.Bool.{Bool, true, false}
 use mathlib.Core.Logic.{_⊎_, ⊎-elim}
 use mathlib.Core.List.{List}
-use Prim.Native.Nat.{ℕ, zero, suc, _+_, _-_, _*_, _/_, _^_, _<_, _≤_, min}
-use native.Mathlib.Nat.{mul-div-cancel, div-mul-le-self}
+use Prim.Native.Nat.{ℕ, zero, suc, _+_, _-_, _*_, _/_, _<_, _≤_}
 use native.Mathlib.Omega.{arith}
-use lib.Dec.{leb, eqb}
 use lib.ListN.{length}
-use borrow.Author.Tests.{leb-true, eqb-true, le-leb, lt-leb, eq-eqb, ne-eqb}
-use Rattle.model.specs.Tests.{both, all}
-use Rattle.model.proofs.Tests.{either, order, both-true, both-left, both-right, both-first, both-second, all-at, all-from}
-use Rattle.search.specs.Search.{entry}
-use Rattle.runs.specs.Runs.{strideOf, runCount, runStart, runSize, runBefore, total, least, fits, runFits, mostOf, runsStand, runsAccepts}
+use borrow.Author.Tests.{leb-true, eqb-true, le-leb, eq-eqb}
+use Rattle.model.specs.Tests.{total}
+use Rattle.model.proofs.Counted.{Count, counted-count, counted-right, both-pass}
+use Rattle.model.proofs.Tests.{either, order, both-true, both-left, both-right, all-at, all-from}
+use Rattle.runs.specs.Runs.{strideOf, runCount, runStart, runSize, runBefore, least, fits, runFits, mostOf, runsStand, runsAccepts}
 
 -- ---- one run
 
@@ -38,8 +36,7 @@ fit-fits {s} {z} {b} {low} {rows} {most} f =
 -- ---- the whole body, of n runs
 
 pub record Parts (w : ℕ) (xs : List ℕ) (span count n : ℕ) : Type 0 where
-  pub some : 1 ≤ count
-  pub few : count ≤ span
+  pub counts : Count span count
   pub sized : n * strideOf w ≡ length xs
   pub fit : (i : ℕ) → i < n → Fit (runStart w xs i) (runSize w xs i) (runBefore w xs i) (least w xs i) (total (runSize w xs) i) (mostOf w span)
   pub sum : total (runSize w xs) n ≡ count
@@ -51,22 +48,12 @@ module _ (w : ℕ) (xs : List ℕ) (span count : ℕ) where
   accepts-parts e =
       let e₁ = both-right _ _ e in
       let e₂ = both-right _ _ e₁ in
-      let e₃ = both-right _ _ e₂ in
-      record {
-        some = leb-true 1 count (both-left _ _ e);
-        few = leb-true count span (both-left _ _ e₁);
-        sized = eqb-true _ _ (both-left _ _ e₂);
-        fit = λ i l. fits-fit (all-at _ _ (both-left _ _ e₃) i l);
-        sum = eqb-true _ _ (both-right _ _ e₃);
-      }
+      record { counts = counted-count span count (both-left _ _ e); sized = eqb-true _ _ (both-left _ _ e₁); fit = λ i l. fits-fit (all-at _ _ (both-left _ _ e₂) i l); sum = eqb-true _ _ (both-right _ _ e₂) }
 
   pub parts-accepts : Parts w xs span count (runCount w xs) → runsAccepts w xs span count ≡ true
   unfolding runsAccepts runsStand runFits
   parts-accepts p =
-      both-true _ _ (le-leb _ _ (p .some))
-      (both-true _ _ (le-leb _ _ (p .few))
-      (both-true _ _ (eq-eqb _ _ (p .sized))
-      (both-true _ _ (all-from _ _ (λ i l. fit-fits (p .fit i l))) (eq-eqb _ _ (p .sum)))))
+      both-true _ _ (counted-right span count (p .counts)) (both-true _ _ (eq-eqb _ _ (p .sized)) (both-true _ _ (all-from _ _ (λ i l. fit-fits (p .fit i l))) (eq-eqb _ _ (p .sum))))
 
 -- runs that are not empty are no more than their rows
 pub total-least : (f : ℕ → ℕ) (n : ℕ) → ((i : ℕ) → i < n → 1 ≤ f i) → n ≤ total f n
@@ -79,7 +66,7 @@ parts-few {w} {xs} {n = n} p = rw (p .sum) at (total-least (runSize w xs) n (λ 
 
 pub some-run : {w : ℕ} {xs : List ℕ} {span count n : ℕ} → Parts w xs span count n → 0 < n
 unfolding total
-some-run {n = n} p = ⊎-elim (λ l. l) (λ (g : n ≤ 0). let e : n ≡ 0 = omega arith in omega (arith, p .some, rw e at (p .sum))) (order 0 n)
+some-run {n = n} p = ⊎-elim (λ l. l) (λ (g : n ≤ 0). let e : n ≡ 0 = omega arith in omega (arith, p .counts .some, rw e at (p .sum))) (order 0 n)
 
 -- ---- the answers of the check
 
@@ -88,10 +75,10 @@ module _ (w : ℕ) (xs : List ℕ) (span count : ℕ) where
   refuse h = ⊎-elim (λ e. absurd (h e)) (λ e. sym e) (either (runsAccepts w xs span count))
 
   pub check-none : count ≡ 0 → false ≡ runsAccepts w xs span count
-  check-none z = refuse (λ e. omega (arith, accepts-parts w xs span count e .some))
+  check-none z = refuse (λ e. omega (arith, accepts-parts w xs span count e .counts .some))
 
   pub check-over : span < count → false ≡ runsAccepts w xs span count
-  check-over l = refuse (λ e. omega (arith, accepts-parts w xs span count e .few))
+  check-over l = refuse (λ e. omega (arith, accepts-parts w xs span count e .counts .within))
 
   pub check-many : (n : ℕ) → n ≡ length xs / strideOf w → count < n → false ≡ runsAccepts w xs span count
   unfolding runCount
@@ -101,7 +88,7 @@ module _ (w : ℕ) (xs : List ℕ) (span count : ℕ) where
   unfolding runCount
   check-size n size q s d = refuse (λ e. d (s ∙ ap (λ (m : ℕ). m * strideOf w) q ∙ accepts-parts w xs span count e .sized))
 
-  pub check-stand : (n size : ℕ) → n ≡ length xs / strideOf w → size ≡ n * strideOf w → (count ≡ 0 → ⊥) → count ≤ span → size ≡ length xs
-      → runsStand w xs (mostOf w span) count n ≡ runsAccepts w xs span count
-  unfolding runsAccepts runCount both
-  check-stand n size q s z f d = rw (← q, ← s, le-leb 1 count (omega (arith, z)), le-leb count span f, eq-eqb size (length xs) d)
+  pub check-stand : {n size most : ℕ} {r : Bool} → n ≡ length xs / strideOf w → size ≡ n * strideOf w → Count span count → size ≡ length xs
+      → most ≡ mostOf w span → r ≡ runsStand w xs most count n → r ≡ runsAccepts w xs span count
+  unfolding runsAccepts runCount
+  check-stand q s c d m e = rw (← q, ← s, ← m) (both-pass (counted-right span count c) (both-pass (eq-eqb _ _ d) e))

@@ -1,26 +1,20 @@
 -- Reading a table of runs: entries inside the bytes, and what a flag loop over them keeps.
 -- Assumes nothing.
-use mathlib.Core.Path.{_≡_, refl, sym, ap, _∙_}
-use mathlib.Core.Bool.{Bool, true, false, _&&_}
+use mathlib.Core.Path.{_≡_, refl, ap}
+use mathlib.Core.Bool.{Bool, true, _&&_}
 use mathlib.Core.List.{List}
-use Prim.Native.Nat.{ℕ, zero, suc, _+_, _-_, _*_, _/_, _<_, _≤_}
+use Prim.Native.Nat.{ℕ, _+_, _-_, _*_, _/_, _<_, _≤_}
 use native.Mathlib.Nat.{zero-add, le-trans, mul-le-mul-right, div-mul-le-self}
 use native.Mathlib.Numerals.{add-one}
 use native.Mathlib.Omega.{arith}
 use lib.Dec.{leb, eqb}
-use lib.ListN.{length}
-use Rattle.model.specs.Tests.{both, all}
+use Rattle.model.specs.Tests.{all, total}
+use Rattle.model.proofs.Counted.{and-both}
 use Rattle.fields.specs.Le.{le}
 use Rattle.search.specs.Search.{entry}
-use Rattle.runs.specs.Runs.{strideOf, runStart, runSize, runBefore, total, least, fits, runFits, runsStand}
+use Rattle.runs.specs.Runs.{strideOf, runStart, runSize, runBefore, least, fits, runFits, runsStand}
 use Rattle.runs.specs.Asked.{entryOf}
 use Rattle.runs.specs.declared.Entry.{Entry}
-
--- the code's `&` of two flags is the test of both
-pub and-both : (a b : Bool) → (a && b) ≡ both a b
-unfolding both
-and-both true b = refl
-and-both false b = refl
 
 pub fits-is : (start size before low rows most : ℕ)
     → (leb low start && (leb 1 size && (leb (start + size) most && eqb before rows))) ≡ fits start size before low rows most

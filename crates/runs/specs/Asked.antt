@@ -1,13 +1,11 @@
 -- Place, select and walk of a table of runs, on any bytes, over the width w of a start.
 -- Assumes nothing.
-use mathlib.Core.Path.{_≡_}
-use mathlib.Core.Bool.{Bool, true, false}
-use mathlib.Core.List.{List, [], _∷_, _++_}
+use mathlib.Core.Bool.{false}
+use mathlib.Core.List.{List, [], _++_}
 use Prim.Native.Nat.{ℕ, zero, suc, _+_, _-_, _%_, min}
 use lib.Dec.{ltb}
-use lib.ListN.{length, take}
+use lib.ListN.{take}
 use Rattle.model.specs.Lists.{range, moved}
-use Rattle.model.specs.Answers.{over}
 use Rattle.model.specs.declared.Place.{Place}
 use Rattle.search.specs.Search.{find, upTo}
 use Rattle.runs.specs.Runs.{runStart, runSize, runBefore}
@@ -59,8 +57,3 @@ runsRest w xs n k = lastOf [] (λ (i : ℕ). runsFrom w xs (n - i) i (k - runBef
 -- as many as fit, counted from base
 unfoldable pub runsWalk : ℕ → List ℕ → ℕ → ℕ → ℕ → ℕ → List ℕ
 runsWalk w xs n k base room = moved base (take room (runsRest w xs n k))
-
--- what a walk leaves in the lent slice, and how much it says it wrote
-pub record Walked (written before after : List ℕ) (r : ℕ) : Type 0 where
-  pub wrote : after ≡ over written before
-  pub many : r ≡ length written

@@ -1,14 +1,14 @@
 -- The local form runs, over the width w of a start in bytes: its layout, what is accepted, and what an accepted body names.
 -- A body is a table: entry i has the start of run i (w bytes), its length and the rows before it (2 bytes each).
 -- Assumes nothing.
-use mathlib.Core.Bool.{Bool, true, false}
+use mathlib.Core.Bool.{Bool}
 use mathlib.Core.List.{List, [], _∷_, _++_}
 use Prim.Native.Nat.{ℕ, zero, suc, _+_, _*_, _/_, _^_, min}
 use lib.Dec.{leb, eqb}
 use lib.ListN.{length}
 use Rattle.fields.specs.Le.{digits}
-use Rattle.model.specs.Tests.{both, all, flat}
-use Rattle.model.specs.Lists.{range, Run, run, runsOf}
+use Rattle.model.specs.Tests.{both, all, flat, total}
+use Rattle.model.specs.Lists.{counted, range, Run, run, runsOf}
 use Rattle.search.specs.Search.{entry}
 
 -- ---- the table
@@ -29,11 +29,6 @@ runSize w xs = entry 2 xs w (strideOf w)
 
 abbrev pub runBefore : ℕ → List ℕ → ℕ → ℕ
 runBefore w xs = entry 2 xs (w + 2) (strideOf w)
-
--- f 0 + f 1 + .. + f (n - 1)
-unfoldable pub total : (ℕ → ℕ) → ℕ → ℕ
-total f zero = 0
-total f (suc n) = total f n + f n
 
 -- ---- what the first n runs name
 
@@ -66,8 +61,7 @@ unfoldable pub runsStand : ℕ → List ℕ → ℕ → ℕ → ℕ → Bool
 runsStand w xs most count n = both (all (runFits w xs most) n) (eqb (total (runSize w xs) n) count)
 
 unfoldable pub runsAccepts : ℕ → List ℕ → ℕ → ℕ → Bool
-runsAccepts w xs span count =
-    both (leb 1 count) (both (leb count span) (both (eqb (runCount w xs * strideOf w) (length xs)) (runsStand w xs (mostOf w span) count (runCount w xs))))
+runsAccepts w xs span count = both (counted span count) (both (eqb (runCount w xs * strideOf w) (length xs)) (runsStand w xs (mostOf w span) count (runCount w xs)))
 
 -- ---- the layout
 

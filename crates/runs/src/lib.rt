@@ -1,13 +1,14 @@
 // The local form runs. A run is read at either width by the same functions: its start has 4 bytes where `wide`, else 2.
 use model::Place;
 ghost use mathlib.Core.Path.{_≡_};
-ghost use Prim.Native.Nat.{ℕ, _+_, _-_, _*_, _/_, _^_, _≤_, _<_, min};
+ghost use Prim.Native.Nat.{_+_, _-_, _*_, _/_, _^_, _≤_, _<_, min};
 ghost use lib.ListN.{length, take};
 ghost use lib.Seq.{sets};
 ghost use Rattle.model.specs.Lists.{range, moved};
+ghost use Rattle.model.specs.Answers.{Walked};
 ghost use Rattle.fields.specs.Le.{widthOf};
 ghost use Rattle.runs.specs.Runs.{strideOf, fits, mostOf, runsStand, runsAccepts};
-ghost use Rattle.runs.specs.Asked.{entryOf, startsTo, beforeTo, placeIn, runsPlace, nthOf, runsSelect, runsFrom, runsWalk, Walked};
+ghost use Rattle.runs.specs.Asked.{entryOf, startsTo, beforeTo, placeIn, runsPlace, nthOf, runsSelect, runsFrom, runsWalk};
 
 // Start, length and rows before of a run.
 pub struct Entry {

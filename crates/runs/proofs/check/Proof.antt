@@ -1,6 +1,5 @@
 -- `runs::check` meets its contract: each early answer is the whole test's.
 -- Assumes nothing.
-use mathlib.Core.Path.{_∙_, sym}
 use native.Mathlib.Omega.{arith}
 use borrow.Author.Needs.{needs}
 use Rattle.runs.proofs.Table.{held}
@@ -24,5 +23,5 @@ check-spec =
     (λ c.
     let o = c .before .before .before in
     let r = o .before .before .before .before in
-    rw (c .before .most .ensures) at (c .stand .ensures)
-    ∙ check-stand _ _ _ _ _ _ (r .runs-in .ensures) (o .offset .ensures) (o .before .before .before .if1 .left) (o .before .before .if2 .left) (c .before .before .if4 .left)))
+    check-stand _ _ _ _ (r .runs-in .ensures) (o .offset .ensures) (record { some = omega arith; within = o .before .before .if2 .left; most = omega arith }) (c .before .before .if4 .left)
+    (c .before .most .ensures) (c .stand .ensures)))

@@ -1,7 +1,6 @@
 -- `runs::place` meets its contract.
 -- Assumes nothing.
-use mathlib.Core.Path.{_∙_, ap}
-use native.Mathlib.Omega.{arith}
+use mathlib.Core.Path.{_∙_}
 use borrow.Author.Needs.{needs}
 use Rattle.runs.specs.Asked.{entryOf, startsTo, runsPlace}
 use Rattle.runs.proofs.Table.{inside}

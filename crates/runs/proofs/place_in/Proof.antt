@@ -1,6 +1,5 @@
 -- `runs::place_in` meets its contract.
 -- Assumes nothing.
-use native.Mathlib.Omega.{arith}
 use borrow.Author.Needs.{needs}
 use Rattle.runs.proofs.Found.{place-present, place-absent}
 use Rattle.runs.proofs.place_in.Statement.{statement}

@@ -1,11 +1,8 @@
 -- `runs::walk_from` meets its contract: run after run, until the runs or the room end.
 -- Assumes nothing.
-use mathlib.Core.Path.{_≡_, refl, sym, _∙_}
 use mathlib.Core.List.{List}
 use Prim.Native.Nat.{ℕ, _+_, _-_}
 use native.Mathlib.Omega.{arith}
-use lib.ListN.{length}
-use borrow.Author.Needs.{needs}
 use Rattle.fields.specs.Le.{widthOf}
 use Rattle.runs.specs.Asked.{runsFrom}
 use Rattle.runs.proofs.Table.{inside}

@@ -1,10 +1,10 @@
 -- `runs::write_run` meets its contract.
 -- Assumes nothing.
-use mathlib.Core.Path.{_≡_, refl, sym, _∙_}
+use mathlib.Core.Path.{_≡_, refl, _∙_}
 use Prim.Native.Nat.{_-_, _≤_}
 use native.Mathlib.Omega.{arith}
 use lib.ListN.{length, length-set}
-use lib.Seq.{sets, length-sets}
+use lib.Seq.{sets}
 use borrow.Author.Needs.{needs}
 use Rattle.model.specs.Lists.{range, moved}
 use Rattle.runs.proofs.Filling.{written-next, written-end}
