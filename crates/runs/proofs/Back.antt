@@ -15,6 +15,7 @@ use Rattle.model.proofs.Ranges.{length-range}
 use Rattle.model.proofs.Runs.{runsOf-spread, spread-tabulate}
 use Rattle.search.specs.Search.{entry}
 use Rattle.runs.specs.Runs.{strideOf, runStart, runSize, runBefore, runAt, runsNames, least, runsBytes, runsLayout}
+use Rattle.runs.proofs.General.{apart-behind}
 use Rattle.runs.proofs.Table.{inside}
 use Rattle.runs.proofs.Parts.{Parts, some-run}
 use Rattle.runs.proofs.Names.{names-total}
@@ -25,11 +26,6 @@ unfolding runsNames runAt
 names-spread w xs n = sym (spread-tabulate (runAt w xs) n)
 
 -- ---- one run more
-
--- runs that stand apart, and one more behind them
-pub apart-behind : {a b c : ℕ} {r : Run} {rs : List Run} → Apart a c rs → a ≤ r .start → c < r .start → 1 ≤ r .size → r .start + r .size ≤ b → Apart a b (rs ++ (r ∷ []))
-apart-behind stop l h f e = next l f e stop
-apart-behind {b = b} (next p q o t) l h f e = next {b = b} p q (omega arith) (apart-behind t (omega arith) h f e)
 
 bytes-behind : (w before : ℕ) (rs : List Run) (r : Run)
     → runsBytes w before (rs ++ (r ∷ [])) ≡ runsBytes w before rs ++ (digits w (r .start) ++ digits 2 (r .size) ++ digits 2 (before + length (spread rs)))

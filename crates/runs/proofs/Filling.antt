@@ -1,21 +1,22 @@
 -- What a walk of runs has written so far: one run into the lent slice, and run after run.
 -- Assumes nothing.
 use mathlib.Core.Path.{_≡_, refl, sym, ap, _∙_}
-use mathlib.Core.List.{List, [], _∷_, _++_, append-assoc, append-nil}
-use Prim.Native.Nat.{ℕ, zero, suc, _+_, _-_, _%_, _<_, _≤_, min}
-use native.Mathlib.Nat.{zero-add, add-zero, add-suc}
+use mathlib.Core.List.{List, [], _++_, append-assoc}
+use Prim.Native.Nat.{ℕ, suc, _+_, _-_, _%_, _<_, _≤_, min}
+use native.Mathlib.Nat.{zero-add, add-zero}
 use native.Mathlib.Numerals.{add-one}
 use native.Mathlib.Omega.{arith}
-use lib.ListN.{length, take, drop, set, length-append, length-drop}
-use lib.Seq.{sets, take-all, take-add, drop-drop, length-take-le, take-append-seam, drop-append-seam, take-nil}
+use lib.ListN.{length, take, drop, set}
+use lib.Seq.{sets, drop-drop, drop-append-seam, take-nil}
 use Rattle.fields.proofs.Laws.{sets-append}
 use Rattle.model.specs.Lists.{range, moved}
 use Rattle.model.specs.Answers.{over, Walked}
 use Rattle.model.proofs.Ranges.{length-range, range-append}
-use Rattle.model.proofs.Writing.{length-moved, moved-append, over-none, over-length, over-next}
+use Rattle.model.proofs.Writing.{length-moved, moved-append}
 use Rattle.runs.specs.Runs.{runStart, runSize, runBefore}
 use Rattle.runs.specs.Asked.{entryOf, beforeTo, runsFrom, runsRest, runsWalk}
 use Rattle.runs.specs.declared.Entry.{Entry}
+use Rattle.runs.proofs.General.{moved-range, Filled, filled-start, filled-length, filled-more, filled-end}
 use Rattle.runs.proofs.Found.{last-none, last-some}
 
 -- ---- one run: j numbers from first on stand at `at`
@@ -27,64 +28,11 @@ written-next out at first j e =
     let n : length (moved first (range 0 j)) ≡ j = length-moved first (range 0 j) ∙ length-range 0 j in
     rw (range-append 0 j 1, moved-append, sets-append, n, zero-add, e)
 
--- numbers counted from first are positions counted from base
-pub moved-range : {first : ℕ} (base s a n : ℕ) → first ≡ (base + s) % 4294967296 → moved first (range a n) ≡ moved base (range (s + a) n)
-unfolding moved range
-moved-range base s a zero e = refl
-moved-range {first} base s a (suc n) e =
-    let q : (first + a) % 4294967296 ≡ (base + (s + a)) % 4294967296 = omega arith in
-    rw (q, moved-range base s (suc a) n e, add-suc)
-
 pub written-end : (out : List ℕ) (at base start skip n : ℕ) {f first : ℕ} → f ≡ (base + start) % 4294967296 → first ≡ (f + skip) % 4294967296
     → sets out at (moved first (range 0 n)) ≡ sets out at (moved base (range (start + skip) n))
 written-end out at base start skip n {f} {first} p q =
     let e : first ≡ (base + (start + skip)) % 4294967296 = omega arith in
     rw (moved-range base (start + skip) 0 n e, add-zero)
-
--- ---- run after run
-
--- more is written behind the front
-pub over-more : (vs front xs : List ℕ) (i : ℕ) → length front ≡ i → i + length vs ≤ length xs → sets (over front xs) i vs ≡ over (front ++ vs) xs
-over-more [] front xs i e h = rw append-nil
-over-more (v ∷ vs) front xs i e h =
-    let s : length (front ++ (v ∷ [])) ≡ suc i = length-append front (v ∷ []) ∙ omega arith in
-    rw (over-next front xs i v e (omega arith), over-more vs (front ++ (v ∷ [])) xs (suc i) s (omega arith), append-assoc)
-
--- the first `done` of rows stand in front, counted from base
-pub record Filled (base : ℕ) (rows before after : List ℕ) (done : ℕ) : Type 0 where
-  pub within : done ≤ length rows
-  pub room : done ≤ length before
-  pub holds : after ≡ over (moved base (take done rows)) before
-
-pub filled-start : (base : ℕ) (rows before : List ℕ) → Filled base rows before before 0
-unfolding moved
-filled-start base rows before = record { within = omega arith; room = omega arith; holds = sym (over-none before) }
-
-module _ {base : ℕ} {rows before after : List ℕ} {done : ℕ} (f : Filled base rows before after done) where
-  front-length : length (moved base (take done rows)) ≡ done
-  front-length = length-moved base (take done rows) ∙ length-take-le done rows (f .within)
-
-  pub filled-length : length after ≡ length before
-  filled-length = rw (f .holds) (over-length (moved base (take done rows)) before (omega (arith, front-length, f .room)))
-
-  pub filled-more : (vs rest : List ℕ) → drop done rows ≡ vs ++ rest → done + length vs ≤ length before → Filled base rows before (sets after done (moved base vs)) (done + length vs)
-  filled-more vs rest e h =
-      let n : length rows - done ≡ length vs + length rest = sym (length-drop done rows) ∙ ap length e ∙ length-append vs rest in
-      let t : take (done + length vs) rows ≡ take done rows ++ vs = rw (take-add, e, take-append-seam) in
-      record {
-        within = omega (arith, f .within);
-        room = h;
-        holds = rw (t, moved-append, f .holds) (over-more (moved base vs) (moved base (take done rows)) before done front-length (rw length-moved h));
-      }
-
-  pub filled-full : done ≡ length before → Walked (moved base (take (length before) rows)) before after done
-  filled-full e = rw (← e) (record { written = f .holds; number = sym front-length })
-
-  pub filled-end : drop done rows ≡ [] → Walked (moved base (take (length before) rows)) before after done
-  filled-end e =
-      let n : length rows - done ≡ 0 = sym (length-drop done rows) ∙ ap length e in
-      let t : take (length before) rows ≡ take done rows = take-all (length before) rows (omega (arith, f .room)) ∙ sym (take-all done rows (omega arith)) in
-      rw t (record { written = f .holds; number = sym front-length })
 
 -- ---- the walk at run i, of which `left` positions are to be left out
 

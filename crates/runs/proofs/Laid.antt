@@ -11,55 +11,15 @@ use lib.Seq.{getD-append-add, ext-getD}
 use Rattle.fields.specs.Le.{le, digits}
 use Rattle.fields.proofs.Laws.{le-same, le-digits, length-digits}
 use Rattle.model.specs.Tests.{tabulate, total}
-use Rattle.model.specs.Lists.{Rising, range, Run, run, spread, runsOf, Apart, stop, next}
+use Rattle.model.specs.Lists.{Rising, Run, run, spread, runsOf, Apart}
 use Rattle.model.proofs.Tests.{length-tabulate, getD-tabulate}
 use Rattle.model.proofs.Rising.{rising-room}
-use Rattle.model.proofs.Ranges.{length-range}
 use Rattle.model.proofs.Runs.{spread-runsOf, apart-runsOf, spread-rising}
 use Rattle.search.specs.Search.{entry}
 use Rattle.runs.specs.Runs.{strideOf, runCount, runStart, runSize, runBefore, runAt, runsNames, least, mostOf, runsAccepts, runsBytes, runsLayout}
 use Rattle.runs.proofs.Parts.{Fit, Parts, parts-accepts}
-use Rattle.runs.proofs.Names.{total-le}
+use Rattle.runs.proofs.General.{nth, sizes, apart-at, apart-next, total-le, total-front, total-same, sizes-total}
 use Rattle.runs.proofs.Back.{names-spread}
-
--- ---- runs by index
-
--- run i of a list
-abbrev nth : List Run → ℕ → Run
-nth rs i = getD rs i (run 0 0)
-
-abbrev sizes : List Run → ℕ → ℕ
-sizes rs i = nth rs i .size
-
-pub record Placed (a b : ℕ) (r : Run) : Type 0 where
-  pub from : a ≤ r .start
-  pub filled : 1 ≤ r .size
-  pub to : r .start + r .size ≤ b
-
-pub apart-at : {a b : ℕ} {rs : List Run} → Apart a b rs → (i : ℕ) → i < length rs → Placed a b (nth rs i)
-apart-at stop i h = absurd (omega arith)
-apart-at (next p q o t) zero h = record { from = p; filled = q; to = o }
-apart-at (next p q o t) (suc i) h = let s = apart-at t i (omega arith) in record { from = omega (arith, s .from); filled = s .filled; to = s .to }
-
-pub apart-next : {a b : ℕ} {rs : List Run} → Apart a b rs → (i : ℕ) → suc i < length rs → nth rs i .start + nth rs i .size < nth rs (suc i) .start
-apart-next stop i h = absurd (omega arith)
-apart-next (next p q o t) zero h = apart-at t 0 (omega arith) .from
-apart-next (next p q o t) (suc i) h = apart-next t i (omega arith)
-
-pub total-front : (f : ℕ → ℕ) (n : ℕ) → total f (suc n) ≡ f 0 + total (λ (i : ℕ). f (suc i)) n
-unfolding total
-total-front f zero = omega arith
-total-front f (suc n) = rw (total-front f n) (omega arith)
-
-pub total-same : (f g : ℕ → ℕ) (n : ℕ) → ((i : ℕ) → i < n → f i ≡ g i) → total f n ≡ total g n
-unfolding total
-total-same f g zero h = refl
-total-same f g (suc n) h = rw (total-same f g n (λ i l. h i (omega arith)), h n (omega arith))
-
-sizes-total : (rs : List Run) → total (sizes rs) (length rs) ≡ length (spread rs)
-unfolding spread total
-sizes-total [] = refl
-sizes-total (r ∷ rs) = total-front (sizes (r ∷ rs)) (length rs) ∙ rw (sizes-total rs) (sym (length-append (range (r .start) (r .size)) (spread rs) ∙ rw length-range))
 
 -- ---- the fields of laid out runs
 

@@ -1,3 +1,4 @@
+pub mod General
 pub mod Table
 pub mod Parts
 pub mod Found

@@ -7,21 +7,20 @@ use mathlib.Core.List.{List, [], _++_, append-assoc, append-nil}
 use Prim.Native.Nat.{ℕ, zero, suc, _+_, _-_, _%_, _<_, _≤_}
 use native.Mathlib.Nat.{add-zero, sub-zero, mod-eq-of-lt}
 use native.Mathlib.Omega.{arith}
-use lib.Dec.{ltb}
 use lib.ListN.{length, getD, drop}
 use lib.Seq.{drop-append-add, drop-append-le}
-use borrow.Author.Tests.{leb-true, leb-false, lt-ltb, le-ltb}
+use borrow.Author.Tests.{leb-true, leb-false}
 use Rattle.model.specs.Tests.{flat, total}
-use Rattle.model.specs.Lists.{Rising, below, has, placeOf, walkOf, range, moved}
-use Rattle.model.proofs.Tests.{order, last-or-before, flat-length-step}
+use Rattle.model.specs.Lists.{Rising, below, placeOf, walkOf, range, moved}
+use Rattle.model.proofs.Tests.{last-or-before, flat-length-step}
 use Rattle.model.proofs.Rising.{rising-wider}
-use Rattle.model.proofs.Standing.{has-outside}
-use Rattle.model.proofs.Ranges.{length-range, getD-range, range-rising, range-drop, below-range, has-range}
+use Rattle.model.proofs.Ranges.{length-range, getD-range, range-rising, range-drop, below-range}
 use Rattle.model.proofs.Pieces.{Pieces, pieces-rising, pieces-none, pieces-place, pieces-select}
 use Rattle.search.specs.Search.{upTo, allowed, Cut}
 use Rattle.search.proofs.Laws.{find-cut, falls-level}
 use Rattle.runs.specs.Runs.{runStart, runSize, runBefore, runsNames, least, mostOf}
 use Rattle.runs.specs.Asked.{entryOf, startsTo, beforeTo, lastOf, placeIn, runsPlace, nthOf, runsSelect, runsFrom, runsRest, runsWalk}
+use Rattle.runs.proofs.General.{total-le, has-past}
 use Rattle.runs.proofs.Parts.{Parts, some-run}
 
 -- the positions of run i
@@ -43,12 +42,6 @@ names-split w xs i zero = rw (add-zero i, append-nil)
 names-split w xs i (suc m) =
     let e : i + suc m ≡ suc i + m = omega arith in
     rw (e, names-split w xs (suc i) m, append-assoc, add-zero (runStart w xs i), sub-zero)
-
-pub total-le : (f : ℕ → ℕ) (i n : ℕ) → i ≤ n → total f i ≤ total f n
-unfolding total
-total-le f i zero h = let e : i ≡ 0 = omega arith in rw e (omega arith)
-total-le f i (suc n) h =
-    ⊎-elim (λ (e : i ≡ suc n). rw e (omega arith)) (λ (l : i < suc n). omega (arith, total-le f i n (omega arith))) (native.Mathlib.Nat.eq-or-lt-of-le h)
 
 -- ---- on an accepted body
 
@@ -86,14 +79,6 @@ module _ {w : ℕ} {xs : List ℕ} {span count n : ℕ} (p : Parts w xs span cou
 
   pub names-length : length (runsNames w xs n) ≡ count
   names-length = names-total w xs n ∙ p .sum
-
--- a position in a range that starts at it or before
-has-past : (a n q : ℕ) → a ≤ q → has (range a n) q ≡ ltb (q - a) n
-has-past a n q h =
-    ⊎-elim
-    (λ l. has-range a n q h (omega arith) ∙ sym (lt-ltb (q - a) n l))
-    (λ g. has-outside (range-rising a n) q (λ o. omega (arith, o .1)) ∙ sym (le-ltb (q - a) n g))
-    (order (q - a) n)
 
 -- the tests of the two searches, as numbers
 passed : (f : ℕ → ℕ) (key i : ℕ) → upTo false f key i ≡ true → f i ≤ key

@@ -4,13 +4,14 @@ use mathlib.Core.Path.{_≡_, sym, ap, _∙_}
 use mathlib.Core.Bool.{Bool, true, false}
 use mathlib.Core.Logic.{_⊎_, ⊎-elim}
 use mathlib.Core.List.{List}
-use Prim.Native.Nat.{ℕ, zero, suc, _+_, _-_, _*_, _/_, _<_, _≤_}
+use Prim.Native.Nat.{ℕ, _+_, _-_, _*_, _/_, _<_, _≤_}
 use native.Mathlib.Omega.{arith}
 use lib.ListN.{length}
 use borrow.Author.Tests.{leb-true, eqb-true, le-leb, eq-eqb}
 use Rattle.model.specs.Tests.{total}
 use Rattle.model.proofs.Counted.{Count, counted-count, counted-right, both-pass}
 use Rattle.model.proofs.Tests.{either, order, both-true, both-left, both-right, all-at, all-from}
+use Rattle.runs.proofs.General.{total-least}
 use Rattle.runs.specs.Runs.{strideOf, runCount, runStart, runSize, runBefore, least, fits, runFits, mostOf, runsStand, runsAccepts}
 
 -- ---- one run
@@ -54,12 +55,6 @@ module _ (w : ℕ) (xs : List ℕ) (span count : ℕ) where
   unfolding runsAccepts runsStand runFits
   parts-accepts p =
       both-true _ _ (counted-right span count (p .counts)) (both-true _ _ (eq-eqb _ _ (p .sized)) (both-true _ _ (all-from _ _ (λ i l. fit-fits (p .fit i l))) (eq-eqb _ _ (p .sum))))
-
--- runs that are not empty are no more than their rows
-pub total-least : (f : ℕ → ℕ) (n : ℕ) → ((i : ℕ) → i < n → 1 ≤ f i) → n ≤ total f n
-unfolding total
-total-least f zero h = omega arith
-total-least f (suc n) h = omega (arith, total-least f n (λ i l. h i (omega arith)), h n (omega arith))
 
 pub parts-few : {w : ℕ} {xs : List ℕ} {span count n : ℕ} → Parts w xs span count n → n ≤ count
 parts-few {w} {xs} {n = n} p = rw (p .sum) at (total-least (runSize w xs) n (λ i l. p .fit i l .filled))

@@ -15,7 +15,8 @@ use Rattle.runs.specs.declared.Entry.{Entry}
 unfoldable pub entryOf : ℕ → List ℕ → ℕ → Entry
 entryOf w xs i = record { start = runStart w xs i; size = runSize w xs i; before = runBefore w xs i }
 
--- how many of n runs start at p or before; how many state at most k rows before them
+-- where the search ends for a run that starts after p, and for one that states more than k rows before it. On an accepted body
+-- these are the number of runs that start at p or before, and of those that have at most k rows before them
 unfoldable pub startsTo : ℕ → List ℕ → ℕ → ℕ → ℕ
 startsTo w xs n p = find (upTo false (runStart w xs) p) 0 n
 

@@ -92,7 +92,7 @@ fn stand(body: &[u8], runs: u16, end: u64, count: u16, wide: bool) -> bool
     ok & (rows == count as u64)
 }
 
-// A body of more runs than count has too many rows, so that it is refused unread.
+// Whether the body is accepted. One of more runs than count has too many rows: it is refused unread, and the sum of rows cannot wrap.
 pub fn check(body: &[u8], span: u32, count: u16, wide: bool) -> bool
     ensures { λ r. ⌜ r ≡ runsAccepts (widthOf wide) (now (body .entry)) span count ⌝ }
 {
@@ -112,7 +112,7 @@ pub fn check(body: &[u8], span: u32, count: u16, wide: bool) -> bool
     stand(body, runs as u16, most(span, wide), count, wide)
 }
 
-// How many runs start at p or before.
+// Where the search ends for a run that starts after p.
 fn starts_to(body: &[u8], runs: usize, p: u32, wide: bool) -> usize
     requires { ⌜ runs * strideOf (widthOf wide) ≤ length (now body) ⌝ }
     ensures { λ r. ⌜ r ≡ startsTo (widthOf wide) (now (body .entry)) runs p ⌝ }
@@ -120,7 +120,7 @@ fn starts_to(body: &[u8], runs: usize, p: u32, wide: bool) -> usize
     search::upper(body, 0, width(wide) + 4, runs, p, wide, false)
 }
 
-// How many runs state at most k rows before them.
+// Where the search ends for a run that states more than k rows before it.
 fn before_to(body: &[u8], runs: usize, k: u16, wide: bool) -> usize
     requires { ⌜ runs * strideOf (widthOf wide) ≤ length (now body) ⌝ }
     ensures { λ r. ⌜ r ≡ beforeTo (widthOf wide) (now (body .entry)) runs k ⌝ }
@@ -149,6 +149,7 @@ fn place_in(e: Entry, p: u32) -> Place
     }
 }
 
+// The rows below p, and whether p is one.
 pub fn place(body: &[u8], runs: usize, p: u32, wide: bool) -> Place
     requires { ⌜ runs * strideOf (widthOf wide) ≤ length (now body) ⌝ }
     ensures { λ r. ⌜ r ≡ runsPlace (widthOf wide) (now (body .entry)) runs p ⌝ }
@@ -171,6 +172,7 @@ fn nth(e: Entry, k: u16) -> u32
     std::num::wrapping_add_u32(e.start, (k - e.before) as u32)
 }
 
+// The position of ordinal k.
 pub fn select(body: &[u8], runs: usize, k: u16, wide: bool) -> u32
     requires { ⌜ runs * strideOf (widthOf wide) ≤ length (now body) ⌝ }
     ensures { λ r. ⌜ r ≡ runsSelect (widthOf wide) (now (body .entry)) runs k ⌝ }
@@ -236,7 +238,8 @@ fn walk_from(
     done
 }
 
-// The run of ordinal `from` is found once; from there on the walk goes run by run.
+// Fills out with the positions of the ordinals from `from` on, counted from base, as many as fit or remain, and answers how many.
+// The first run is searched for; from there on the walk goes run by run.
 pub fn walk(body: &[u8], runs: usize, from: u16, base: u32, out: &mut [u32], wide: bool) -> usize
     requires { ⌜ runs * strideOf (widthOf wide) ≤ length (now body) ⌝ }
     ensures { λ r. ⌜ Walked (runsWalk (widthOf wide) (now (body .entry)) runs from base (length (now (out .entry)))) (now (out .entry)) (now (out .exit)) r ⌝ }

@@ -6,7 +6,8 @@ use native.Mathlib.Omega.{arith}
 use Rattle.fields.specs.Le.{widthOf}
 use Rattle.runs.specs.Asked.{runsFrom}
 use Rattle.runs.proofs.Table.{inside}
-use Rattle.runs.proofs.Filling.{Filled, filled-length, filled-full, Walking, walking-start, walking-wrote, walking-next, walking-end}
+use Rattle.runs.proofs.General.{Filled, filled-length, filled-full}
+use Rattle.runs.proofs.Filling.{Walking, walking-start, walking-wrote, walking-next, walking-end}
 use Rattle.runs.proofs.walk_from.Statement.{statement}
 use Rattle.runs.proofs.walk_from.Tie as tie
 
