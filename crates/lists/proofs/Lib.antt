@@ -1,0 +1,3 @@
+pub mod Counted
+pub mod Slots
+pub mod Climbing
