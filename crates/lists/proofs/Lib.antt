@@ -1,3 +1,5 @@
 pub mod Counted
 pub mod Slots
 pub mod Climbing
+pub mod Places
+pub mod Writing
