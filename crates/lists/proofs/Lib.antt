@@ -3,3 +3,4 @@ pub mod Slots
 pub mod Climbing
 pub mod Places
 pub mod Writing
+pub mod Dense

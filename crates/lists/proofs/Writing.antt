@@ -11,7 +11,7 @@ use Rattle.fields.proofs.Laws.{sets-append}
 use Rattle.model.specs.Tests.{tabulate}
 use Rattle.model.specs.Lists.{range, moved, walkOf}
 use Rattle.model.specs.Answers.{over}
-use Rattle.model.proofs.Tests.{length-tabulate, getD-tabulate, tabulate-step}
+use Rattle.model.proofs.Tests.{length-tabulate, getD-tabulate, tabulate-step, tabulate-same}
 use Rattle.model.proofs.Ranges.{length-range, getD-range}
 use Rattle.model.proofs.Writing.{length-moved, moved-append}
 use Rattle.lists.specs.Walks.{Walked}
@@ -44,6 +44,11 @@ range-tabulate a n =
     ext-getD 0 (range a n) (tabulate g n) (length-range a n ∙ sym (length-tabulate g n))
     (λ i l. getD-range a n i (omega arith) ∙ sym (getD-tabulate g n i 0 (omega arith)))
 
+pub walk-range : (a n k m : ℕ) {r : ℕ} → r ≡ min m (n - k) → walkOf (range a n) k m ≡ range (a + k) r
+walk-range a n k m {r} e =
+    rw (range-tabulate a n, range-tabulate (a + k) r)
+    (walk-tabulate (λ (j : ℕ). a + j) n k m e ∙ tabulate-same (λ (j : ℕ). a + (k + j)) (λ (j : ℕ). a + k + j) r (λ i l. omega arith))
+
 -- ---- the loop: i values of g, counted from base, stand from at on
 pub record Writing (g : ℕ → ℕ) (base at n : ℕ) (before out : List ℕ) (i : ℕ) : Type 0 where
   pub upto : i ≤ n
@@ -69,8 +74,8 @@ module _ (g : ℕ → ℕ) (base at : ℕ) {n : ℕ} {before : List ℕ} where
   pub writing-end : {out : List ℕ} {i : ℕ} → Writing g base at n before out i → n ≤ i → out ≡ sets before at (moved base (tabulate g n))
   writing-end {out} {i} s h = let q : i ≡ n = omega (arith, s .upto) in rw (← q) (s .front)
 
--- a walk that wrote all of its values from 0 on
-pub walked : (g : ℕ → ℕ) (base : ℕ) {n : ℕ} {before out : List ℕ} (rows : List ℕ) → out ≡ sets before 0 (moved base (tabulate g n)) → n ≤ length before → rows ≡ tabulate g n → Walked (moved base rows) before out n
-walked g base {n} {before} {out} rows e h q =
-    let size : length (moved base (tabulate g n)) ≡ n = length-moved base (tabulate g n) ∙ length-tabulate g n in
-    rw q (record { written = e ∙ sets-front (moved base (tabulate g n)) before (omega arith); number = sym size })
+-- a walk that wrote the values ws from 0 on
+pub walked : (base : ℕ) (rows ws : List ℕ) {before out : List ℕ} {n : ℕ} → rows ≡ ws → out ≡ sets before 0 (moved base ws) → length ws ≡ n → n ≤ length before → Walked (moved base rows) before out n
+walked base rows ws {before} {out} {n} q e l h =
+    let size : length (moved base ws) ≡ n = length-moved base ws ∙ l in
+    rw q (record { written = e ∙ sets-front (moved base ws) before (omega arith); number = sym size })

@@ -4,8 +4,9 @@ ghost use mathlib.Core.Path.{_≡_};
 ghost use Prim.Native.Nat.{_+_, _-_, _*_, _≤_, _<_, min};
 ghost use lib.ListN.{length};
 ghost use Rattle.fields.specs.Le.{widthOf};
-ghost use Rattle.model.specs.Lists.{walkOf, moved};
-ghost use Rattle.lists.specs.Lists.{item, risesBelow, listAccepts, listNames, listPlace};
+ghost use lib.Seq.{sets};
+ghost use Rattle.model.specs.Lists.{range, placeOf, walkOf, moved};
+ghost use Rattle.lists.specs.Lists.{item, risesBelow, listAccepts, listNames, listPlace, denseAccepts, denseNames};
 ghost use Rattle.lists.specs.Walks.{Walked};
 
 fn width(wide: bool) -> usize
@@ -119,5 +120,57 @@ pub fn walk(body: &[u8], count: u16, from: u16, base: u32, out: &mut [u32], wide
         out[i] = std::num::wrapping_add_u32(base, item(body, start + i, wide));
         i += 1;
     }
+    n
+}
+
+// Writes the positions pos, pos + 1, .. into out from at on, counted from base.
+pub fn fill(out: &mut [u32], at: usize, base: u32, pos: u32, size: u32)
+    requires { ⌜ at + size ≤ length (now out) ⌝ }
+    ensures { λ _. ⌜ now (out .exit) ≡ sets (now (out .entry)) at (moved base (range pos size)) ⌝ }
+{
+    let first = std::num::wrapping_add_u32(base, pos);
+    let mut i = 0;
+    while i < size {
+        out[at + i as usize] = std::num::wrapping_add_u32(first, i);
+        i += 1;
+    }
+}
+
+pub fn dense_check(body: &[u8], span: u32, count: u16) -> bool
+    ensures { λ r. ⌜ r ≡ denseAccepts (now (body .entry)) span count ⌝ }
+{
+    if body.len() != 0 {
+        return false;
+    }
+    if count as u32 != span {
+        return false;
+    }
+    if count == 0 {
+        return false;
+    }
+    true
+}
+
+pub fn dense_place(span: u32, p: u32) -> Place
+    ensures { λ r. ⌜ r ≡ placeOf (denseNames span) p ⌝ }
+{
+    if p < span {
+        Place {
+            below: p,
+            present: true,
+        }
+    } else {
+        Place {
+            below: span,
+            present: false,
+        }
+    }
+}
+
+pub fn dense_walk(count: u16, from: u16, base: u32, out: &mut [u32]) -> usize
+    ensures { λ r. ⌜ Walked (moved base (walkOf (denseNames count) from (length (now (out .entry))))) (now (out .entry)) (now (out .exit)) r ⌝ }
+{
+    let n = room(count, from, out.len());
+    fill(out, 0, base, from as u32, n as u32);
     n
 }

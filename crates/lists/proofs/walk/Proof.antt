@@ -6,6 +6,7 @@ use native.Mathlib.Nat.{zero-add}
 use native.Mathlib.Omega.{arith}
 use borrow.Author.Needs.{needs}
 use Rattle.fields.specs.Le.{widthOf}
+use Rattle.model.proofs.Tests.{length-tabulate}
 use Rattle.lists.specs.Lists.{item, listNames}
 use Rattle.lists.proofs.Slots.{slot}
 use Rattle.lists.proofs.Writing.{Writing, writing-start, writing-next, writing-end, walk-tabulate, walked}
@@ -39,5 +40,4 @@ walk-spec =
     (λ c. c .before .loop .inv .same)
     (λ c.
     let at = c .before .before in
-    walked _ _ _ (writing-end _ _ _ (c .before .loop .inv) (c .loop-test .left)) (omega (arith, at .room .ensures))
-    (walk-tabulate _ _ _ _ (at .room .ensures))))
+    walked _ _ _ (walk-tabulate _ _ _ _ (at .room .ensures)) (writing-end _ _ _ (c .before .loop .inv) (c .loop-test .left)) (length-tabulate _ _) (omega (arith, at .room .ensures))))
