@@ -45,10 +45,14 @@ rising-full {a} {b} (more {x = x} {xs = xs} l h r) e =
 
 -- ---- T1 to T4. Select is the ordinal itself, and place and walk are stated of the list where the functions stand
 
-pub dense-fits : {span : ℕ} {xs : List ℕ} → Rising 0 span xs → length xs ≡ span → Count span (length xs) → (denseAccepts [] span (length xs) ≡ true) × (denseNames (length xs) ≡ xs)
-unfolding denseAccepts
-dense-fits {span} {xs} r e c =
-    (both-true _ _ refl (both-true _ _ (eq-eqb (length xs) span e) (counted-right _ _ c)), rising-full r (omega arith))
+module _ {span : ℕ} {xs : List ℕ} (r : Rising 0 span xs) (whole : length xs ≡ span) where
+  pub dense-accepted : 1 ≤ length xs → length xs ≤ 65535 → denseAccepts [] span (length xs) ≡ true
+  unfolding denseAccepts
+  dense-accepted some most =
+      both-true _ _ refl (both-true _ _ (eq-eqb (length xs) span whole) (counted-right _ _ (record { some = some; within = omega arith; most = most })))
+
+  pub dense-names : denseNames (length xs) ≡ xs
+  dense-names = rising-full r (omega arith)
 
 module _ (body : List ℕ) (span n : ℕ) (ok : denseAccepts body span n ≡ true) where
   pub dense-count : Count span n

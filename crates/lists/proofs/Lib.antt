@@ -4,3 +4,6 @@ pub mod Climbing
 pub mod Places
 pub mod Writing
 pub mod Dense
+pub mod Bytes
+pub mod Laws
+pub mod Examples
