@@ -12,14 +12,9 @@ use borrow.Author.Tests.{lt-ltb, ltb-true}
 use Rattle.model.specs.Tests.{both, all, tabulate}
 use Rattle.model.specs.Lists.{Rising}
 use Rattle.model.proofs.Tests.{both-true, both-left, both-right, all-at, all-from, all-step, last-or-before, length-tabulate, getD-tabulate, same-test}
+use Rattle.model.proofs.Counted.{and-both}
 use Rattle.model.proofs.Rising.{rising-tests, rising-below, rising-strict}
 use Rattle.lists.specs.Lists.{climbs, risesBelow}
-
--- the code's conjunction
-pub and-both : (a b : Bool) → a && b ≡ both a b
-unfolding both
-and-both true b = refl
-and-both false b = refl
 
 -- ---- the check's loop: i pairs were compared
 pub record Climbing (f : ℕ → ℕ) (m : ℕ) (ok : Bool) (i : ℕ) : Type 0 where

@@ -16,8 +16,8 @@ use Rattle.model.proofs.Tests.{both-true, both-left, both-right}
 use Rattle.model.proofs.Rising.{rising-room}
 use Rattle.model.proofs.Standing.{has-outside}
 use Rattle.model.proofs.Ranges.{length-range, getD-range, range-rising, below-range, has-range}
-use Rattle.lists.specs.Lists.{counted, denseAccepts, denseNames}
-use Rattle.lists.proofs.Counted.{Count, counted-right, counted-count}
+use Rattle.lists.specs.Lists.{denseAccepts, denseNames}
+use Rattle.model.proofs.Counted.{Count, counted-right, counted-count}
 
 -- ---- place
 

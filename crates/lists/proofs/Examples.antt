@@ -6,10 +6,10 @@ use mathlib.Core.List.{List, [], _∷_}
 use Prim.Native.Nat.{ℕ}
 use Rattle.fields.specs.Le.{le, digits}
 use Rattle.model.specs.Tests.{both, pick, all, tabulate}
-use Rattle.model.specs.Lists.{range}
+use Rattle.model.specs.Lists.{counted, range}
 use Rattle.model.specs.declared.Place.{Place}
 use Rattle.search.specs.Search.{entry, find, bsearch, upTo, allowed}
-use Rattle.lists.specs.Lists.{counted, denseAccepts, denseNames, listLayout, climbs, risesBelow, listAccepts, listNames, placeAt, listPlace}
+use Rattle.lists.specs.Lists.{denseAccepts, denseNames, listLayout, climbs, risesBelow, listAccepts, listNames, placeAt, listPlace}
 
 -- [0, 10), 3 4 5: 03 00 04 00 05 00
 abbrev body : List ℕ

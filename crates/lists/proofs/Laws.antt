@@ -16,7 +16,7 @@ use Rattle.model.specs.Lists.{Rising, placeOf}
 use Rattle.model.proofs.Tests.{both-true, both-left, both-right, length-tabulate, getD-tabulate}
 use Rattle.model.proofs.Rising.{rising-room}
 use Rattle.lists.specs.Lists.{item, risesBelow, listLayout, listAccepts, listNames, listPlace}
-use Rattle.lists.proofs.Counted.{Count, counted-right, counted-count}
+use Rattle.model.proofs.Counted.{Count, counted-right, counted-count}
 use Rattle.lists.proofs.Climbing.{rises-rising, rising-rises}
 use Rattle.lists.proofs.Places.{placed}
 use Rattle.lists.proofs.Bytes.{length-layout, layout-item, layout-read}

@@ -1,4 +1,3 @@
-pub mod Counted
 pub mod Slots
 pub mod Climbing
 pub mod Places

@@ -10,11 +10,10 @@ use lib.Seq.{sets, length-sets, sets-eq, ext-getD, getD-take, getD-drop}
 use Rattle.fields.proofs.Laws.{sets-append}
 use Rattle.model.specs.Tests.{tabulate}
 use Rattle.model.specs.Lists.{range, moved, walkOf}
-use Rattle.model.specs.Answers.{over}
+use Rattle.model.specs.Answers.{over, Walked}
 use Rattle.model.proofs.Tests.{length-tabulate, getD-tabulate, tabulate-step, tabulate-same}
 use Rattle.model.proofs.Ranges.{length-range, getD-range}
 use Rattle.model.proofs.Writing.{length-moved, moved-append}
-use Rattle.lists.specs.Walks.{Walked}
 
 -- ---- one list after another in front
 

@@ -4,17 +4,13 @@
 use mathlib.Core.Bool.{Bool, true, false}
 use mathlib.Core.List.{List, [], _∷_, _++_}
 use Prim.Native.Nat.{ℕ, zero, suc, _+_, _-_, _*_}
-use lib.Dec.{ltb, leb, eqb}
+use lib.Dec.{ltb, eqb}
 use lib.ListN.{length}
 use Rattle.fields.specs.Le.{digits}
 use Rattle.model.specs.Tests.{both, pick, all, tabulate}
-use Rattle.model.specs.Lists.{range}
+use Rattle.model.specs.Lists.{counted, range}
 use Rattle.model.specs.declared.Place.{Place}
 use Rattle.search.specs.Search.{entry, find, upTo}
-
--- ---- what every form asks of a count: at least one row, not more than the span, not more than ordinals can number
-unfoldable pub counted : ℕ → ℕ → Bool
-counted span n = both (leb 1 n) (both (leb n span) (leb n 65535))
 
 -- ---- dense: no bytes, every position of the span
 

@@ -5,9 +5,9 @@ ghost use Prim.Native.Nat.{_+_, _-_, _*_, _≤_, _<_, min};
 ghost use lib.ListN.{length};
 ghost use Rattle.fields.specs.Le.{widthOf};
 ghost use lib.Seq.{sets};
+ghost use Rattle.model.specs.Answers.{Walked};
 ghost use Rattle.model.specs.Lists.{range, placeOf, walkOf, moved};
 ghost use Rattle.lists.specs.Lists.{item, risesBelow, listAccepts, listNames, listPlace, denseAccepts, denseNames};
-ghost use Rattle.lists.specs.Walks.{Walked};
 
 fn width(wide: bool) -> usize
     ensures { λ r. ⌜ r ≡ widthOf wide ⌝ }

@@ -6,7 +6,7 @@ use borrow.Author.Tests.{eq-eqb, ne-eqb}
 use borrow.Author.Needs.{needs}
 use Rattle.model.proofs.Tests.{both-first, both-second}
 use Rattle.lists.specs.Lists.{listAccepts}
-use Rattle.lists.proofs.Counted.{both-pass, counted-none, counted-past, counted-right}
+use Rattle.model.proofs.Counted.{both-pass, counted-none, counted-past, counted-right}
 use Rattle.lists.proofs.check.Statement.{statement}
 use Rattle.lists.proofs.check.Tie as tie
 

@@ -5,7 +5,7 @@ use native.Mathlib.Omega.{arith}
 use borrow.Author.Tests.{eq-eqb, ne-eqb}
 use Rattle.model.proofs.Tests.{both-first, both-second, both-true}
 use Rattle.lists.specs.Lists.{denseAccepts}
-use Rattle.lists.proofs.Counted.{counted-none, counted-right}
+use Rattle.model.proofs.Counted.{counted-none, counted-right}
 use Rattle.lists.proofs.dense_check.Statement.{statement}
 use Rattle.lists.proofs.dense_check.Tie as tie
 
