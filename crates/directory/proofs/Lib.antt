@@ -1,2 +1,5 @@
 pub mod Checking
 pub mod Parts
+pub mod Facts
+pub mod Names
+pub mod Walks

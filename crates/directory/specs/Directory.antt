@@ -9,7 +9,7 @@ use lib.ListN.{length, take, drop}
 use Rattle.fields.specs.Le.{le}
 use Rattle.model.specs.Tests.{both, pick, all, flat, total}
 use Rattle.model.specs.Lists.{counted, shift}
-use Rattle.search.specs.Search.{entry}
+use Rattle.search.specs.Search.{entry, find, upTo}
 use Rattle.directory.specs.declared.Segment.{Segment}
 
 -- ---- the fields: count u16, segments u16, then 16 bytes per segment
@@ -112,6 +112,16 @@ directoryAccepts xs span =
     (both (leb (directorySize (statedSegments xs)) (length xs))
     (both (counted span (statedCount xs))
     (segmentsFit xs span (statedSegments xs)))))
+
+-- ---- searching
+
+-- how many of n segments start at p or before
+abbrev pub startsTo : List ℕ → ℕ → ℕ → ℕ
+startsTo xs n p = find (upTo false (startAt xs) p) 0 n
+
+-- how many of n segments state at most k rows before them
+abbrev pub ordinalsTo : List ℕ → ℕ → ℕ → ℕ
+ordinalsTo xs n k = find (upTo false (ordinalAt xs) k) 0 n
 
 -- ---- what is named, if segment i names g i counted from its start
 

@@ -1,11 +1,9 @@
 // The directory of a segmented body (tag 9). What the segments hold is no matter of this crate.
 ghost use mathlib.Core.Path.{_≡_};
-ghost use mathlib.Core.Bool.{false};
 ghost use Prim.Native.Nat.{_+_, _*_, _<_, _≤_};
 ghost use lib.ListN.{length};
 ghost use Rattle.model.specs.Lists.{counted};
-ghost use Rattle.search.specs.Search.{find, upTo};
-ghost use Rattle.directory.specs.Directory.{statedSegments, startAt, ordinalAt, zeroAt, entryOf, isLocal, fits, segmentsFit, directoryAccepts};
+ghost use Rattle.directory.specs.Directory.{statedSegments, startsTo, ordinalsTo, zeroAt, entryOf, isLocal, fits, segmentsFit, directoryAccepts};
 
 // One entry of the directory: where the segment starts, its span, rows, rows before it, and where its payload lies.
 pub struct Segment {
@@ -54,7 +52,7 @@ pub fn segments(body: &[u8]) -> usize
 // How many of n segments start at p or before.
 pub fn by_start(body: &[u8], n: usize, p: u32) -> usize
     requires { ⌜ 4 + 16 * n ≤ length (now body) ⌝ }
-    ensures { λ r. ⌜ r ≡ find (upTo false (startAt (now (body .entry))) p) 0 n ⌝ }
+    ensures { λ r. ⌜ r ≡ startsTo (now (body .entry)) n p ⌝ }
 {
     search::upper(body, 4, 16, n, p, true, false)
 }
@@ -62,7 +60,7 @@ pub fn by_start(body: &[u8], n: usize, p: u32) -> usize
 // How many of n segments state at most k rows before them.
 pub fn by_ordinal(body: &[u8], n: usize, k: u16) -> usize
     requires { ⌜ 4 + 16 * n ≤ length (now body) ⌝ }
-    ensures { λ r. ⌜ r ≡ find (upTo false (ordinalAt (now (body .entry))) k) 0 n ⌝ }
+    ensures { λ r. ⌜ r ≡ ordinalsTo (now (body .entry)) n k ⌝ }
 {
     search::upper(body, 12, 16, n, k as u32, false, false)
 }
