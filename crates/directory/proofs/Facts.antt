@@ -1,21 +1,20 @@
 -- What an accepted directory says of its segments: starts and ordinals rise, payloads follow one another inside the body, and nothing passes 32 bits.
 -- Assumes nothing.
-use mathlib.Core.Path.{_≡_, refl, sym, ap, _∙_}
+use mathlib.Core.Path.{_≡_, sym, _∙_}
 use mathlib.Core.Bool.{Bool, true, false}
 use mathlib.Core.Logic.{_⊎_, ⊎-elim, inl, inr}
 use mathlib.Core.List.{List}
-use Prim.Native.Nat.{ℕ, zero, suc, _+_, _-_, _*_, _<_, _≤_}
+use Prim.Native.Nat.{ℕ, zero, suc, _+_, _-_, _<_, _≤_}
 use native.Mathlib.Nat.{eq-or-lt-of-le}
 use native.Mathlib.Omega.{arith}
-use lib.Dec.{leb, eqb}
-use lib.ListN.{length, take, drop, length-take, length-drop}
+use lib.ListN.{length, length-take, length-drop}
 use borrow.Author.Tests.{leb-true, leb-false, eqb-true}
 use Rattle.model.specs.Tests.{pick, total}
-use Rattle.model.proofs.Tests.{either, order, last-or-before, pick-true, pick-false}
-use Rattle.search.specs.Search.{entry, find, upTo, allowed, Falling, Cut}
+use Rattle.model.proofs.Tests.{either, last-or-before, pick-false}
+use Rattle.search.specs.Search.{upTo, allowed, Cut}
 use Rattle.search.proofs.Laws.{falls-level, find-cut}
-use Rattle.directory.specs.Directory.{statedCount, startAt, spanAt, countAt, ordinalAt, offsetAt, lengthAt, tagAt, partOf, rowsBefore, bytesBefore, directorySize, endBefore, isLocal, startsTo, ordinalsTo}
-use Rattle.directory.proofs.Parts.{Counted, Fit, Directory}
+use Rattle.directory.specs.Directory.{statedCount, startAt, spanAt, countAt, ordinalAt, offsetAt, lengthAt, partOf, rowsBefore, directorySize, endBefore, isLocal, startsTo, ordinalsTo}
+use Rattle.directory.proofs.Parts.{Directory}
 
 -- ---- sums
 

@@ -3,3 +3,5 @@ pub mod Parts
 pub mod Facts
 pub mod Names
 pub mod Walks
+pub mod LaidOut
+pub mod Examples

@@ -1,21 +1,19 @@
 -- What an accepted directory names, over what its segments name: a rising list in pieces, and place and select as one segment's.
 -- Assumes nothing.
-use mathlib.Core.Path.{_≡_, refl, sym, ap, _∙_}
-use mathlib.Core.Bool.{Bool, true, false}
-use mathlib.Core.Logic.{_⊎_, ⊎-elim}
-use mathlib.Core.List.{List, [], _∷_, _++_}
-use Prim.Native.Nat.{ℕ, zero, suc, _+_, _-_, _*_, _<_, _≤_}
+use mathlib.Core.Path.{_≡_, refl, sym, _∙_}
+use mathlib.Core.Bool.{false}
+use mathlib.Core.List.{List}
+use Prim.Native.Nat.{ℕ, zero, suc, _+_, _-_, _<_, _≤_}
 use native.Mathlib.Nat.{add-zero}
 use native.Mathlib.Omega.{arith}
-use lib.ListN.{length, getD, take, drop, length-append}
+use lib.ListN.{length, getD, length-append}
 use Rattle.model.specs.Tests.{flat, total}
 use Rattle.model.specs.Lists.{Rising, below, has, shift}
-use Rattle.model.proofs.Tests.{order}
 use Rattle.model.proofs.Append.{length-shift, getD-shift, shift-rising, below-shift, has-shift}
 use Rattle.model.proofs.Pieces.{Pieces, pieces-rising, pieces-none, pieces-place, pieces-select}
-use Rattle.search.specs.Search.{entry, find, upTo, Cut}
+use Rattle.search.specs.Search.{upTo, Cut}
 use Rattle.directory.specs.Directory.{statedCount, statedSegments, startAt, spanAt, countAt, ordinalAt, rowsBefore, startsTo, ordinalsTo, pieceOf, namesOf}
-use Rattle.directory.proofs.Parts.{Fit, Directory}
+use Rattle.directory.proofs.Parts.{Directory}
 use Rattle.directory.proofs.Facts.{segments-apart, at-most, above, starts-cut, Holds, ordinal-holds}
 
 -- ---- general laws

@@ -1,21 +1,18 @@
 -- An accepted directory taken apart: the record by which readers know it, and what follows from it for each segment.
 -- Assumes nothing.
-use mathlib.Core.Path.{_≡_, refl, sym, ap, _∙_}
+use mathlib.Core.Path.{_≡_, sym, _∙_}
 use mathlib.Core.Bool.{Bool, true, false, _&&_}
-use mathlib.Core.Logic.{_⊎_, ⊎-elim, inl, inr}
+use mathlib.Core.Logic.{⊎-elim}
 use mathlib.Core.List.{List}
-use Prim.Native.Nat.{ℕ, zero, suc, _+_, _-_, _*_, _<_, _≤_}
+use Prim.Native.Nat.{ℕ, _+_, _<_, _≤_}
 use native.Mathlib.Omega.{arith}
-use lib.Dec.{leb, eqb}
-use lib.ListN.{length, take, drop, length-take, length-drop}
-use borrow.Author.Tests.{leb-true, eqb-true, le-leb, lt-leb, eq-eqb, ne-eqb}
-use Rattle.fields.specs.Le.{le}
-use Rattle.model.specs.Tests.{both, pick, all, total}
+use lib.ListN.{length}
+use borrow.Author.Tests.{leb-true, eqb-true, le-leb, eq-eqb}
+use Rattle.model.specs.Tests.{both}
 use Rattle.model.specs.Lists.{counted}
-use Rattle.model.proofs.Tests.{either, never, last-or-before, pick-true, pick-false, both-true, both-left, both-right, all-at, all-from}
-use Rattle.search.specs.Search.{entry}
+use Rattle.model.proofs.Tests.{either, both-true, both-left, both-right, all-at, all-from}
 use Rattle.directory.proofs.Checking.{and-both}
-use Rattle.directory.specs.Directory.{statedCount, statedSegments, startAt, spanAt, countAt, ordinalAt, offsetAt, lengthAt, tagAt, zeroAt, entryOf, partOf, rowsBefore, bytesBefore, directorySize, endBefore, isLocal, fits, segmentFits, segmentsFit, directoryAccepts}
+use Rattle.directory.specs.Directory.{statedCount, statedSegments, startAt, spanAt, countAt, ordinalAt, offsetAt, tagAt, zeroAt, entryOf, rowsBefore, bytesBefore, directorySize, endBefore, isLocal, fits, segmentFits, segmentsFit, directoryAccepts}
 
 -- ---- a count that a span has room for
 

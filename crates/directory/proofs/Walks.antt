@@ -1,22 +1,20 @@
 -- The walk over an accepted directory: what is left from an ordinal on, segment by segment, in the shape that a loop over the segments consumes.
 -- Assumes nothing.
-use mathlib.Core.Path.{_≡_, refl, sym, ap, _∙_}
-use mathlib.Core.Logic.{_⊎_, ⊎-elim}
+use mathlib.Core.Path.{_≡_, sym, ap, _∙_}
 use mathlib.Core.List.{List, [], _∷_, _++_, append-assoc, append-nil}
-use Prim.Native.Nat.{ℕ, zero, suc, _+_, _-_, _*_, _<_, _≤_, min}
+use Prim.Native.Nat.{ℕ, zero, suc, _+_, _-_, _<_, _≤_}
 use native.Mathlib.Nat.{add-zero}
 use native.Mathlib.Omega.{arith}
-use lib.ListN.{length, getD, take, drop, length-append, length-take, length-drop, drop-of-length-le}
+use lib.ListN.{length, take, drop, length-append, length-take, drop-of-length-le}
 use lib.Seq.{drop-append-add, drop-append-le, take-nil}
 use Rattle.model.specs.Tests.{flat, total}
 use Rattle.model.specs.Lists.{Rising, none, more, shift, moved, walkOf}
 use Rattle.model.proofs.Rising.{rising-wider}
-use Rattle.model.proofs.Append.{length-shift, shift-take, shift-drop}
-use Rattle.model.proofs.Pieces.{flat-split, flat-rest}
+use Rattle.model.proofs.Append.{shift-take, shift-drop}
+use Rattle.model.proofs.Pieces.{flat-split}
 use Rattle.model.proofs.Writing.{moved-shift}
-use Rattle.search.specs.Search.{entry}
-use Rattle.directory.specs.Directory.{statedCount, statedSegments, startAt, spanAt, countAt, ordinalAt, rowsBefore, pieceOf, namesOf}
-use Rattle.directory.proofs.Parts.{Fit, Directory}
+use Rattle.directory.specs.Directory.{statedSegments, startAt, countAt, ordinalAt, rowsBefore, pieceOf, namesOf}
+use Rattle.directory.proofs.Parts.{Directory}
 use Rattle.directory.proofs.Facts.{Holds}
 use Rattle.directory.proofs.Names.{Named, piece-length, front-length, names-length}
 
