@@ -13,6 +13,7 @@ use borrow.Author.Tests.{le-leb}
 use Rattle.fields.specs.Le.{le}
 use Rattle.model.specs.Tests.{both, pick, all, total}
 use Rattle.model.specs.Lists.{counted}
+use Rattle.model.proofs.Counted.{and-both}
 use Rattle.search.specs.Search.{entry}
 use Rattle.directory.specs.Directory.{statedCount, startAt, spanAt, countAt, lengthAt, zeroAt, entryOf, rowsBefore, bytesBefore, directorySize, endBefore, isLocal, fits, segmentFits, segmentsFit}
 use Rattle.directory.specs.declared.Segment.{Segment}
@@ -32,12 +33,7 @@ entry-is xs i a b c d e f = rw (a, b, c, d, e, f, byte-is)
 
 -- ---- the code's flags
 
--- the code's `&` of two flags is the test of both, and its `|` a choice
-pub and-both : (a b : Bool) → (a && b) ≡ both a b
-unfolding both
-and-both true b = refl
-and-both false b = refl
-
+-- the code's `|` of two flags is a choice
 or-pick : (a b : Bool) → (a || b) ≡ pick a true b
 unfolding pick
 or-pick true b = refl

@@ -12,11 +12,12 @@ use Rattle.fields.specs.Le.{le, digits}
 use Rattle.fields.proofs.Laws.{le-same, le-digits, length-digits}
 use Rattle.model.specs.Tests.{flat, total}
 use Rattle.model.proofs.Pieces.{flat-split, flat-rest}
+use Rattle.model.proofs.Counted.{Count}
 use Rattle.search.specs.Search.{entry}
 use Rattle.directory.specs.Directory.{statedCount, statedSegments, zeroAt, entryOf, partOf, rowsBefore, bytesBefore, directorySize, endBefore, isLocal, directoryAccepts}
 use Rattle.directory.specs.Layout.{Plan, entryLayout, directoryLayout}
 use Rattle.directory.specs.declared.Segment.{Segment}
-use Rattle.directory.proofs.Parts.{Counted, Fit, Directory, directory-accepts}
+use Rattle.directory.proofs.Parts.{Fit, Directory, directory-accepts}
 use Rattle.directory.proofs.Facts.{total-least}
 use Rattle.directory.proofs.Names.{flat-total}
 
@@ -149,7 +150,7 @@ pub record Sound (s : Plan) (span n : ℕ) : Type 0 where
   pub few : total (s .count) n ≤ span
   pub within : (i : ℕ) → i < n → s .start i + s .span i ≤ span
   pub apart : (i : ℕ) → suc i < n → s .start i + s .span i ≤ s .start (suc i)
-  pub rows : (i : ℕ) → i < n → Counted (s .span i) (s .count i)
+  pub rows : (i : ℕ) → i < n → Count (s .span i) (s .count i)
   pub local : (i : ℕ) → i < n → isLocal (s .tag i) ≡ true
 
 total-agree : (f h : ℕ → ℕ) (n : ℕ) → ((i : ℕ) → i < n → f i ≡ h i) → total f n ≡ total h n
@@ -199,7 +200,7 @@ module _ (s : Plan) (n : ℕ) (ys : List ℕ) (m : Small s n) where
       record {
         some = o .some;
         room = omega (arith, size);
-        rows = rw stated (record { some = omega (arith, o .rows 0 (o .some) .some, total-least (s .count) 0 n (o .some)); few = o .few; small = omega (arith, m .rows) });
+        rows = rw stated (record { some = omega (arith, o .rows 0 (o .some) .some, total-least (s .count) 0 n (o .some)); within = o .few; most = omega (arith, m .rows) });
         fit = λ i l. fit-laid o i l;
         sum = rows-laid n (omega arith) ∙ sym stated;
         end = rw (bytes-laid n (omega arith)) (sym size);

@@ -1,6 +1,6 @@
 -- An accepted directory taken apart: the record by which readers know it, and what follows from it for each segment.
 -- Assumes nothing.
-use mathlib.Core.Path.{_≡_, sym, _∙_}
+use mathlib.Core.Path.{_≡_, refl, sym, _∙_}
 use mathlib.Core.Bool.{Bool, true, false, _&&_}
 use mathlib.Core.Logic.{⊎-elim}
 use mathlib.Core.List.{List}
@@ -11,25 +11,8 @@ use borrow.Author.Tests.{leb-true, eqb-true, le-leb, eq-eqb}
 use Rattle.model.specs.Tests.{both}
 use Rattle.model.specs.Lists.{counted}
 use Rattle.model.proofs.Tests.{either, both-true, both-left, both-right, all-at, all-from}
-use Rattle.directory.proofs.Checking.{and-both}
+use Rattle.model.proofs.Counted.{both-pass, and-both, Count, counted-right, counted-count}
 use Rattle.directory.specs.Directory.{statedCount, statedSegments, startAt, spanAt, countAt, ordinalAt, offsetAt, tagAt, zeroAt, entryOf, rowsBefore, bytesBefore, directorySize, endBefore, isLocal, fits, segmentFits, segmentsFit, directoryAccepts}
-
--- ---- a count that a span has room for
-
-pub record Counted (span n : ℕ) : Type 0 where
-  pub some : 1 ≤ n
-  pub few : n ≤ span
-  pub small : n ≤ 65535
-
-pub counted-parts : (span n : ℕ) → counted span n ≡ true → Counted span n
-unfolding counted
-counted-parts span n e =
-    let f = both-right _ _ e in
-    record { some = leb-true 1 n (both-left _ _ e); few = leb-true n span (both-left _ _ f); small = leb-true n 65535 (both-right _ _ f) }
-
-pub parts-counted : (span n : ℕ) → Counted span n → counted span n ≡ true
-unfolding counted
-parts-counted span n c = both-true _ _ (le-leb 1 n (c .some)) (both-true _ _ (le-leb n span (c .few)) (le-leb n 65535 (c .small)))
 
 -- ---- the record
 
@@ -37,7 +20,7 @@ parts-counted span n c = both-true _ _ (le-leb 1 n (c .some)) (both-true _ _ (le
 pub record Fit (xs : List ℕ) (span n i : ℕ) : Type 0 where
   pub apart : endBefore xs i ≤ startAt xs i
   pub within : startAt xs i + spanAt xs i ≤ span
-  pub rows : Counted (spanAt xs i) (countAt xs i)
+  pub rows : Count (spanAt xs i) (countAt xs i)
   pub local : isLocal (tagAt xs i) ≡ true
   pub blank : zeroAt xs i ≡ 0
   pub ordinal : ordinalAt xs i ≡ rowsBefore xs i
@@ -47,15 +30,10 @@ pub record Fit (xs : List ℕ) (span n i : ℕ) : Type 0 where
 pub record Directory (xs : List ℕ) (span n : ℕ) : Type 0 where
   pub some : 1 ≤ n
   pub room : directorySize n ≤ length xs
-  pub rows : Counted span (statedCount xs)
+  pub rows : Count span (statedCount xs)
   pub fit : (i : ℕ) → i < n → Fit xs span n i
   pub sum : rowsBefore xs n ≡ statedCount xs
   pub end : directorySize n + bytesBefore xs n ≡ length xs
-
--- a test that holds leaves the other
-yes-both : {a : Bool} (b : Bool) → a ≡ true → both a b ≡ b
-unfolding both
-yes-both b e = rw e
 
 module _ (xs : List ℕ) (span : ℕ) where
   fits-fit : (n i : ℕ) → segmentFits xs span n i ≡ true → Fit xs span n i
@@ -67,7 +45,7 @@ module _ (xs : List ℕ) (span : ℕ) where
       record {
         apart = leb-true _ _ (both-left _ _ inside);
         within = leb-true _ _ (both-right _ _ inside);
-        rows = counted-parts _ _ (both-left _ _ formed);
+        rows = counted-count _ _ (both-left _ _ formed);
         local = both-left _ _ (both-right _ _ formed);
         blank = eqb-true _ _ (both-right _ _ (both-right _ _ formed));
         ordinal = eqb-true _ _ (both-left _ _ stated);
@@ -78,7 +56,7 @@ module _ (xs : List ℕ) (span : ℕ) where
   unfolding segmentFits fits entryOf
   fit-fits n i f =
       both-true _ _ (both-true _ _ (le-leb _ _ (f .apart)) (le-leb _ _ (f .within)))
-      (both-true _ _ (both-true _ _ (parts-counted _ _ (f .rows)) (both-true _ _ (f .local) (eq-eqb _ _ (f .blank))))
+      (both-true _ _ (both-true _ _ (counted-right _ _ (f .rows)) (both-true _ _ (f .local) (eq-eqb _ _ (f .blank))))
       (both-true _ _ (eq-eqb _ _ (f .ordinal)) (eq-eqb _ _ (f .payload))))
 
   -- the law by which readers take an accepted directory apart
@@ -93,7 +71,7 @@ module _ (xs : List ℕ) (span : ℕ) where
       record {
         some = leb-true _ _ (both-left _ _ e₁);
         room = leb-true _ _ (both-left _ _ e₂);
-        rows = counted-parts _ _ (both-left _ _ e₃);
+        rows = counted-count _ _ (both-left _ _ e₃);
         fit = λ i l. fits-fit (statedSegments xs) i (all-at _ _ (both-left _ _ e₄) i l);
         sum = eqb-true _ _ (both-left _ _ e₅);
         end = eqb-true _ _ (both-right _ _ e₅);
@@ -106,7 +84,7 @@ module _ (xs : List ℕ) (span : ℕ) where
       both-true _ _ (le-leb 4 (length xs) (omega (arith, d .room)))
       (both-true _ _ (le-leb _ _ (d .some))
       (both-true _ _ (le-leb _ _ (d .room))
-      (both-true _ _ (parts-counted _ _ (d .rows))
+      (both-true _ _ (counted-right _ _ (d .rows))
       (both-true _ _ (all-from _ _ (λ i l. fit-fits (statedSegments xs) i (d .fit i l)))
       (both-true _ _ (eq-eqb _ _ (d .sum)) (eq-eqb _ _ (d .end)))))))
 
@@ -130,4 +108,4 @@ module _ (xs : List ℕ) (span : ℕ) where
   check-segments {t} {r} {n} q z l c m f =
       let four : 4 ≤ length xs = omega arith in
       let one : 1 ≤ n = omega (arith, z) in
-      rw (and-both, c, m, f, q) (sym (yes-both _ (le-leb 4 _ four) ∙ yes-both _ (le-leb 1 _ (rw q at one)) ∙ yes-both _ (le-leb _ _ (rw q at l))))
+      rw (and-both, c, m, f, q) (both-pass (le-leb 4 _ four) (both-pass (le-leb 1 _ (rw q at one)) (both-pass (le-leb _ _ (rw q at l)) refl)))

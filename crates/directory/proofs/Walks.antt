@@ -8,11 +8,10 @@ use native.Mathlib.Omega.{arith}
 use lib.ListN.{length, take, drop, length-append, length-take, drop-of-length-le}
 use lib.Seq.{drop-append-add, drop-append-le, take-nil}
 use Rattle.model.specs.Tests.{flat, total}
-use Rattle.model.specs.Lists.{Rising, none, more, shift, moved, walkOf}
-use Rattle.model.proofs.Rising.{rising-wider}
-use Rattle.model.proofs.Append.{shift-take, shift-drop}
+use Rattle.model.specs.Lists.{shift, moved, walkOf}
+use Rattle.model.proofs.Append.{shift-drop}
 use Rattle.model.proofs.Pieces.{flat-split}
-use Rattle.model.proofs.Writing.{moved-shift}
+use Rattle.model.proofs.Writing.{moved-walk}
 use Rattle.directory.specs.Directory.{statedSegments, startAt, countAt, ordinalAt, rowsBefore, pieceOf, namesOf}
 use Rattle.directory.proofs.Parts.{Directory}
 use Rattle.directory.proofs.Facts.{Holds}
@@ -25,17 +24,6 @@ pub take-append : {A : Type 0} (m : ℕ) (us vs : List A) → take m (us ++ vs) 
 take-append zero us vs = let e : 0 - length us ≡ 0 = omega arith in rw e
 take-append (suc m) [] vs = let e : suc m - 0 ≡ suc m = omega arith in rw e
 take-append (suc m) (u ∷ us) vs = let e : suc m - suc (length us) ≡ m - length us = omega arith in rw (e, take-append m us vs)
-
-pub rising-take : {a b : ℕ} {xs : List ℕ} (n : ℕ) → Rising a b xs → Rising a b (take n xs)
-rising-take zero none = none
-rising-take (suc n) none = none
-rising-take zero (more l h r) = none
-rising-take (suc n) (more l h r) = more l h (rising-take n r)
-
-pub rising-drop : {a b : ℕ} {xs : List ℕ} (n : ℕ) → Rising a b xs → Rising a b (drop n xs)
-rising-drop zero r = r
-rising-drop (suc n) none = none
-rising-drop (suc n) (more l h r) = rising-wider (omega arith) (omega arith) (rising-drop n r)
 
 -- ---- what is left
 
@@ -72,10 +60,6 @@ module _ {xs : List ℕ} {span : ℕ} (d : Directory xs span (statedSegments xs)
       let e : rowsBefore xs i + (k - ordinalAt xs i) ≡ k = omega (arith, h .from, d .fit i (h .inside) .ordinal) in
       rw e at (names-rest i (k - ordinalAt xs i) (h .inside) (omega (arith, h .within)))
 
-  -- a walk's positions need no reduction to 32 bits
-  pub moved-piece : span ≤ 4294967295 → (i j m : ℕ) → i < statedSegments xs → moved (startAt xs i) (walkOf (g i) j m) ≡ shift (startAt xs i) (walkOf (g i) j m)
-  moved-piece w i j m l = moved-shift (startAt xs i) (omega (arith, d .fit i l .within)) (rising-take m (rising-drop j (s .rising i l)))
-
   -- ---- the loop over the segments
 
   pub walking-start : (k room i : ℕ) → Holds xs (statedSegments xs) k i → Walking xs g k room i (k - ordinalAt xs i) []
@@ -84,13 +68,14 @@ module _ {xs : List ℕ} {span : ℕ} (d : Directory xs span (statedSegments xs)
       let z : room - 0 ≡ room = omega arith in
       record { within = omega (arith, h .inside); rows = λ l. omega (arith, h .within); whole = rw (e, z) }
 
-  pub walking-next : {k room i skip : ℕ} {written part : List ℕ} → Walking xs g k room i skip written → i < statedSegments xs
-      → part ≡ shift (startAt xs i) (walkOf (g i) skip (room - length written)) → Walking xs g k room (suc i) 0 (written ++ part)
-  walking-next {k} {room} {i} {skip} {written} {part} w l q =
+  -- segment i writes as many as fit or remain, counted from its start in 32 bits
+  pub walking-next : {k room i skip : ℕ} {written part : List ℕ} → span ≤ 4294967295 → Walking xs g k room i skip written → i < statedSegments xs
+      → part ≡ moved (startAt xs i) (walkOf (g i) skip (room - length written)) → Walking xs g k room (suc i) 0 (written ++ part)
+  walking-next {k} {room} {i} {skip} {written} {part} b w l q =
       let left = room - length written in
       let piece = shift (startAt xs i) (drop skip (g i)) in
       let rest = drop (rowsBefore xs (suc i)) (namesOf xs g) in
-      let here : take left piece ≡ part = sym (q ∙ shift-take (startAt xs i) left (drop skip (g i))) in
+      let here : take left piece ≡ part = rw (shift-drop (startAt xs i) skip (g i)) (sym (q ∙ moved-walk (startAt xs i) (omega (arith, d .fit i l .within)) (s .rising i l) skip left)) in
       let size : left - length piece ≡ room - length (written ++ part) = rw (← here, length-append, length-take) (omega arith) in
       record {
         within = l;
