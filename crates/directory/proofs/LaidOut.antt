@@ -11,10 +11,12 @@ use lib.Seq.{getD-append-add, drop-append-add, take-at}
 use Rattle.fields.specs.Le.{le, digits}
 use Rattle.fields.proofs.Laws.{le-same, le-digits, length-digits}
 use Rattle.model.specs.Tests.{flat, total}
+use Rattle.model.specs.Lists.{shift}
+use Rattle.model.proofs.Tests.{flat-same}
 use Rattle.model.proofs.Pieces.{flat-split, flat-rest}
 use Rattle.model.proofs.Counted.{Count}
 use Rattle.search.specs.Search.{entry}
-use Rattle.directory.specs.Directory.{statedCount, statedSegments, zeroAt, entryOf, partOf, rowsBefore, bytesBefore, directorySize, endBefore, isLocal, directoryAccepts}
+use Rattle.directory.specs.Directory.{statedCount, statedSegments, zeroAt, entryOf, partOf, rowsBefore, bytesBefore, directorySize, endBefore, isLocal, directoryAccepts, pieceOf, namesOf}
 use Rattle.directory.specs.Layout.{Plan, entryLayout, directoryLayout}
 use Rattle.directory.specs.declared.Segment.{Segment}
 use Rattle.directory.proofs.Parts.{Fit, Directory, directory-accepts}
@@ -103,11 +105,11 @@ unfolding directoryLayout
 length-layout s n = simp (length-append, length-digits) (omega (arith, length-entries s n n))
 
 module _ (s : Plan) (n : ℕ) (ys : List ℕ) where
-  count-stated : Small s n → statedCount (directoryLayout s n ++ ys) ≡ total (s .count) n
+  pub count-stated : Small s n → statedCount (directoryLayout s n ++ ys) ≡ total (s .count) n
   unfolding directoryLayout
   count-stated m = le-first 2 (directoryLayout s n) ys 0 (omega (arith, length-layout s n)) ∙ head 2 (total (s .count) n) (digits 2 n ++ flat (entryLayout s n) n) (m .rows)
 
-  segments-stated : Small s n → statedSegments (directoryLayout s n ++ ys) ≡ n
+  pub segments-stated : Small s n → statedSegments (directoryLayout s n ++ ys) ≡ n
   unfolding directoryLayout
   segments-stated m = le-first 2 (directoryLayout s n) ys 2 (omega (arith, length-layout s n)) ∙ tail 2 2 (total (s .count) n) (digits 2 n ++ flat (entryLayout s n) n) 0 ∙ head 2 n (flat (entryLayout s n) n) (m .segments)
 
@@ -210,6 +212,11 @@ module _ (s : Plan) (n : ℕ) (ys : List ℕ) (m : Small s n) where
   laid-accepts {span} o e =
       let stated = segments-stated s n ys m in
       directory-accepts (directoryLayout s n ++ ys) span (rw stated (laid-directory o e))
+
+  -- what is named, by the plan's starts
+  pub names-laid : (g : ℕ → List ℕ) → namesOf (directoryLayout s n ++ ys) g ≡ flat (λ (i : ℕ). shift (s .start i) (g i)) n
+  unfolding namesOf pieceOf entryOf
+  names-laid g = rw (segments-stated s n ys m) (flat-same _ _ n (λ i l. rw (part-laid (λ e. e .start) i l)))
 
 -- the payloads read back
 pub payload-laid : (s : Plan) (n : ℕ) (part : ℕ → List ℕ) → Small s n → ((i : ℕ) → i < n → length (part i) ≡ s .size i) → (i : ℕ) → i < n
