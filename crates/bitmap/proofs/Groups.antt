@@ -10,10 +10,12 @@ use native.Mathlib.Omega.{arith}
 use lib.Dec.{ltb, eqb}
 use lib.ListN.{length}
 use lib.Pow.{pow-pos, shr-shr, shr-lt}
-use borrow.Author.Tests.{lt-ltb, le-ltb, le-leb, lt-leb, eq-eqb, ne-eqb, ltb-true, leb-true, eqb-true}
+use borrow.Author.Tests.{lt-ltb, le-ltb, eq-eqb, ne-eqb, ltb-true, eqb-true}
 use Rattle.fields.specs.Le.{Bytes, le}
 use Rattle.model.specs.Tests.{both, all}
-use Rattle.model.proofs.Tests.{all-step, all-at, all-from, both-left, both-right, both-true, order, same-or-not}
+use Rattle.model.specs.Lists.{counted}
+use Rattle.model.proofs.Counted.{and-both, both-pass, Count, counted-right, counted-count}
+use Rattle.model.proofs.Tests.{all-step, all-at, all-from, both-left, both-right, both-true, both-first, both-second, order, same-or-not}
 use Rattle.search.specs.Search.{entry}
 use Rattle.word.specs.Bits.{bitsFrom}
 use Rattle.bitmap.specs.Body.{wordsOf, groupsOf, bitmapLength, number, wordOf, stated, before, bitmapNames, exact, bitmapAccepts}
@@ -23,12 +25,6 @@ use Rattle.bitmap.proofs.Words.{number-lt, word, before-group, before-p
 pub stated-at : (xs : List ℕ) (g : ℕ) → le 2 xs (2 * g) ≡ stated xs g
 unfolding entry
 stated-at xs g = rw (zero-add, mul-comm g 2)
-
--- the code's conjunction
-pub and-both : (a b : Bool) → a && b ≡ both a b
-unfolding both
-and-both true b = refl
-and-both false b = refl
 
 -- g groups are tested, and their rows counted
 pub record Counting (xs : List ℕ) (s n : ℕ) (ok : Bool) (g : ℕ) : Type 0 where
@@ -96,37 +92,30 @@ module _ (xs : List ℕ) (bytes : Bytes xs) (s : ℕ) where
 
 module _ (xs : List ℕ) (s n : ℕ) where
   pub refuse-length : (length xs ≡ bitmapLength s → ⊥) → false ≡ bitmapAccepts xs s n
-  unfolding bitmapAccepts both
-  refuse-length h = rw (ne-eqb _ _ h)
+  unfolding bitmapAccepts
+  refuse-length h = sym (both-first _ _ (ne-eqb _ _ h))
 
-  module _ (sized : length xs ≡ bitmapLength s) where
-    pub refuse-none : n ≡ 0 → false ≡ bitmapAccepts xs s n
-    unfolding bitmapAccepts both
-    refuse-none h = rw (eq-eqb _ _ sized, lt-leb 1 n (omega arith))
+  pub refuse-count : counted s n ≡ false → false ≡ bitmapAccepts xs s n
+  unfolding bitmapAccepts
+  refuse-count h = sym (both-second _ _ (both-first _ _ h))
 
-    pub refuse-more : 1 ≤ n → s < n → false ≡ bitmapAccepts xs s n
-    unfolding bitmapAccepts both
-    refuse-more h l = rw (eq-eqb _ _ sized, le-leb _ _ h, lt-leb _ _ l)
+  pub refuse-past : ltb (number xs s) (2 ^ s) ≡ false → false ≡ bitmapAccepts xs s n
+  unfolding bitmapAccepts
+  refuse-past h = sym (both-second _ _ (both-second _ _ (both-first _ _ h)))
 
-    module _ (some : 1 ≤ n) (room : n ≤ s) (few : n ≤ 65535) where
-      pub refuse-past : ltb (number xs s) (2 ^ s) ≡ false → false ≡ bitmapAccepts xs s n
-      unfolding bitmapAccepts both
-      refuse-past h = rw (eq-eqb _ _ sized, le-leb _ _ some, le-leb _ _ room, le-leb _ _ few, h)
-
-      pub accept-rest : ltb (number xs s) (2 ^ s) ≡ true → both (all (exact xs s) (groupsOf s)) (eqb (length (bitmapNames xs s)) n) ≡ bitmapAccepts xs s n
-      unfolding bitmapAccepts both
-      accept-rest h = rw (eq-eqb _ _ sized, le-leb _ _ some, le-leb _ _ room, le-leb _ _ few, h)
+  pub accept-rest : {r : Bool} → length xs ≡ bitmapLength s → Count s n → ltb (number xs s) (2 ^ s) ≡ true
+      → r ≡ both (all (exact xs s) (groupsOf s)) (eqb (length (bitmapNames xs s)) n) → r ≡ bitmapAccepts xs s n
+  unfolding bitmapAccepts
+  accept-rest l c h e = both-pass (eq-eqb _ _ l) (both-pass (counted-right s n c) (both-pass h e))
 
 -- ---- what acceptance gives
 
 pub record Parts (xs : List ℕ) (s n : ℕ) : Type 0 where
   pub sized : length xs ≡ bitmapLength s
-  pub some : 1 ≤ n
-  pub room : n ≤ s
-  pub few : n ≤ 65535
+  pub count : Count s n
   pub short : number xs s < 2 ^ s
   pub right : (g : ℕ) → g < groupsOf s → stated xs g ≡ before xs s (256 * g)
-  pub count : length (bitmapNames xs s) ≡ n
+  pub rows : length (bitmapNames xs s) ≡ n
 
 pub ok-parts : (xs : List ℕ) (s n : ℕ) → bitmapAccepts xs s n ≡ true → Parts xs s n
 unfolding bitmapAccepts exact
@@ -134,20 +123,16 @@ ok-parts xs s n e1 =
     let e2 = both-right _ _ e1 in
     let e3 = both-right _ _ e2 in
     let e4 = both-right _ _ e3 in
-    let e5 = both-right _ _ e4 in
-    let e6 = both-right _ _ e5 in
     record {
       sized = eqb-true _ _ (both-left _ _ e1);
-      some = leb-true _ _ (both-left _ _ e2);
-      room = leb-true _ _ (both-left _ _ e3);
-      few = leb-true _ _ (both-left _ _ e4);
-      short = ltb-true _ _ (both-left _ _ e5);
-      right = λ g h. eqb-true _ _ (all-at (exact xs s) (groupsOf s) (both-left _ _ e6) g h);
-      count = eqb-true _ _ (both-right _ _ e6);
+      count = counted-count s n (both-left _ _ e2);
+      short = ltb-true _ _ (both-left _ _ e3);
+      right = λ g h. eqb-true _ _ (all-at (exact xs s) (groupsOf s) (both-left _ _ e4) g h);
+      rows = eqb-true _ _ (both-right _ _ e4);
     }
 
 pub parts-ok : (xs : List ℕ) (s n : ℕ) → Parts xs s n → bitmapAccepts xs s n ≡ true
 unfolding exact
 parts-ok xs s n p =
-    sym (accept-rest xs s n (p .sized) (p .some) (p .room) (p .few) (lt-ltb _ _ (p .short)))
-    ∙ both-true _ _ (all-from (exact xs s) (groupsOf s) (λ g h. eq-eqb _ _ (p .right g h))) (eq-eqb _ _ (p .count))
+    sym (accept-rest xs s n (p .sized) (p .count) (lt-ltb _ _ (p .short))
+    (sym (both-true _ _ (all-from (exact xs s) (groupsOf s) (λ g h. eq-eqb _ _ (p .right g h))) (eq-eqb _ _ (p .rows)))))

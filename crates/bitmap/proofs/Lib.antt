@@ -4,3 +4,6 @@ pub mod Groups
 pub mod Readings
 pub mod Locating
 pub mod Walking
+pub mod Rows
+pub mod Laying
+pub mod Examples

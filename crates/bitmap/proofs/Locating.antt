@@ -28,11 +28,11 @@ module _ (xs : List ℕ) (s k : ℕ) where
       let e : 256 * (g + 1) - 256 * g ≡ 256 = omega arith in
       rw e at (between xs s (256 * g) (256 * (g + 1)) (omega arith))
 
-  rest-none : length (groupRows xs s (groupFor xs s k)) ≤ inGroup xs s k → bitmapRest xs s k ≡ []
+  pub rest-none : length (groupRows xs s (groupFor xs s k)) ≤ inGroup xs s k → bitmapRest xs s k ≡ []
   unfolding bitmapRest pick
   rest-none h = rw (le-ltb _ _ h)
 
-  rest-some : inGroup xs s k < length (groupRows xs s (groupFor xs s k)) → bitmapRest xs s k ≡ drop (inGroup xs s k) (from xs s (256 * groupFor xs s k))
+  pub rest-some : inGroup xs s k < length (groupRows xs s (groupFor xs s k)) → bitmapRest xs s k ≡ drop (inGroup xs s k) (from xs s (256 * groupFor xs s k))
   unfolding bitmapRest pick
   rest-some h = rw (lt-ltb _ _ h)
 

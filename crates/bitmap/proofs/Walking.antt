@@ -10,13 +10,13 @@ use lib.ListN.{length, getD, take, drop, set, length-set, length-drop, List·get
 use lib.Seq.{drop-cons, take-suc, take-all, take-nil, getD-drop, drop-append-le, length-take-le}
 use Rattle.fields.specs.Le.{Bytes}
 use Rattle.model.specs.Lists.{shift, moved}
-use Rattle.model.specs.Answers.{over}
+use Rattle.model.specs.Answers.{over, Walked}
 use Rattle.model.proofs.Append.{length-shift, getD-shift, shift-drop}
 use Rattle.model.proofs.Writing.{length-moved, moved-append, over-none, over-next}
 use Rattle.word.specs.Bits.{bitsFrom, bitsOf}
 use Rattle.word.proofs.Bits.{bits-zero, bits-moved}
 use Rattle.bitmap.specs.Body.{wordsOf, wordOf}
-use Rattle.bitmap.specs.Reading.{from, bitmapRest, bitmapSelect, bitmapWalk, restOf, Spotted, Settled, Walked}
+use Rattle.bitmap.specs.Reading.{from, bitmapRest, bitmapSelect, bitmapWalk, restOf, Spotted, Settled}
 use Rattle.bitmap.specs.declared.Spot.{Spot}
 use Rattle.bitmap.proofs.Words.{from-word}
 
@@ -65,7 +65,7 @@ module _ (xs : List ℕ) (bytes : Bytes xs) (s k : ℕ) (spot : Spot) (found : S
 
   -- the rows of the word, counted as positions
   row-length : length (bitsFrom 64 (64 * spot .index) row) ≡ length (bitsOf row)
-  row-length = rw bits-moved (length-shift (64 * spot .index) (bitsOf row))
+  row-length = rw (bits-moved 64 (64 * spot .index) row) (length-shift (64 * spot .index) (bitsOf row))
 
   spot-rest : bitmapRest xs s k ≡ drop (spot .left) (bitsFrom 64 (64 * spot .index) row) ++ from xs s (64 * (spot .index + 1))
   spot-rest =
@@ -88,7 +88,7 @@ no-select xs s k e = rw e
 
 pub no-walk : (xs : List ℕ) (s k base : ℕ) (old : List ℕ) → bitmapRest xs s k ≡ [] → Walked (bitmapWalk xs s k base (length old)) old old 0
 unfolding moved
-no-walk xs s k base old e = rw (e, take-nil) (record { written = sym (over-none old); counted = refl })
+no-walk xs s k base old e = rw (e, take-nil) (record { written = sym (over-none old); number = refl })
 
 -- ---- writing
 
@@ -123,7 +123,7 @@ module _ (xs : List ℕ) (s : ℕ) (rows : List ℕ) (base : ℕ) (old : List �
   -- all that are wanted
   filled : (new : List ℕ) (n i word : ℕ) → Filling xs s rows base old new n i word → take n rows ≡ take (length old) rows → Walked (moved base (take (length old) rows)) old new n
   filled new n i word f e =
-      record { written = rw (← e) (f .written); counted = rw (← e) (sym (length-moved base (take n rows) ∙ length-take-le n rows (f .few))) }
+      record { written = rw (← e) (f .written); number = rw (← e) (sym (length-moved base (take n rows) ∙ length-take-le n rows (f .few))) }
 
   pub filling-full : (new : List ℕ) (n i word : ℕ) → Filling xs s rows base old new n i word → length old ≤ n → Walked (moved base (take (length old) rows)) old new n
   filling-full new n i word f h = let e : n ≡ length old = omega (arith, f .fits) in filled new n i word f (rw e)

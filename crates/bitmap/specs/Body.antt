@@ -4,11 +4,11 @@
 use mathlib.Core.Bool.{Bool}
 use mathlib.Core.List.{List, _++_}
 use Prim.Native.Nat.{ℕ, _+_, _*_, _/_, _^_}
-use lib.Dec.{ltb, leb, eqb}
+use lib.Dec.{ltb, eqb}
 use lib.ListN.{length}
 use Rattle.fields.specs.Le.{le, digits}
 use Rattle.model.specs.Tests.{both, all, flat}
-use Rattle.model.specs.Lists.{below}
+use Rattle.model.specs.Lists.{below, counted}
 use Rattle.search.specs.Search.{entry}
 use Rattle.word.specs.Bits.{bitsFrom, numFrom}
 
@@ -49,15 +49,11 @@ bitmapNames xs s = bitsFrom (64 * wordsOf s) 0 (number xs s)
 unfoldable pub exact : List ℕ → ℕ → ℕ → Bool
 exact xs s g = eqb (stated xs g) (before xs s (256 * g))
 
--- exact length, 1 ≤ n ≤ span, n ≤ 65535, bits past the span zero, rows before exact, the stated count the true one
+-- exact length, a count as every form asks it, bits past the span zero, rows before exact, the stated count the true one
 unfoldable pub bitmapAccepts : List ℕ → ℕ → ℕ → Bool
 bitmapAccepts xs s n =
     both (eqb (length xs) (bitmapLength s))
-    (both (leb 1 n)
-    (both (leb n s)
-    (both (leb n 65535)
-    (both (ltb (number xs s) (2 ^ s))
-    (both (all (exact xs s) (groupsOf s)) (eqb (length (bitmapNames xs s)) n))))))
+    (both (counted s n) (both (ltb (number xs s) (2 ^ s)) (both (all (exact xs s) (groupsOf s)) (eqb (length (bitmapNames xs s)) n))))
 
 -- ---- rows to bytes
 

@@ -8,7 +8,6 @@ use lib.Dec.{ltb}
 use lib.ListN.{length, getD, take, drop}
 use Rattle.model.specs.Tests.{pick}
 use Rattle.model.specs.Lists.{has, moved}
-use Rattle.model.specs.Answers.{over}
 use Rattle.model.specs.declared.Place.{Place}
 use Rattle.search.specs.Search.{find, upTo}
 use Rattle.word.specs.Bits.{bitsFrom, bitsOf}
@@ -51,11 +50,6 @@ bitmapSelect xs s k = getD (bitmapRest xs s k) 0 0
 -- counted from base: as many as fit or remain
 abbrev pub bitmapWalk : List ℕ → ℕ → ℕ → ℕ → ℕ → List ℕ
 bitmapWalk xs s k base n = moved base (take n (bitmapRest xs s k))
-
--- rows stand in front of the lent slice, the rest is as it was, and n is their number
-pub record Walked (rows old new : List ℕ) (n : ℕ) : Type 0 where
-  pub written : new ≡ over rows old
-  pub counted : n ≡ length rows
 
 -- ---- inside
 
