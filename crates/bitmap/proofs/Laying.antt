@@ -126,13 +126,13 @@ module _ (xs : List ℕ) (bytes : Bytes xs) (s n : ℕ) (ok : bitmapAccepts xs s
       rw b (digits-le 2 xs (g * 2) bytes (omega (arith, parts .sized)))
 
   -- it is the layout of what it names
-  pub body-laid : xs ≡ bitmapLayout s (bitmapNames xs s)
+  pub bitmap-layout : bitmapLayout s (bitmapNames xs s) ≡ xs
   unfolding bitmapLayout
-  body-laid =
+  bitmap-layout =
       let heads : flat (λ (g : ℕ). digits 2 (below (bitmapNames xs s) (256 * g))) (groupsOf s) ≡ take (groupsOf s * 2) xs =
       flat-same _ _ (groupsOf s) head ∙ pieces 2 (groupsOf s) xs in
       let words : digits (8 * wordsOf s) (number xs s) ≡ drop (2 * groupsOf s) xs =
       digits-le (8 * wordsOf s) xs (2 * groupsOf s) bytes (omega (arith, parts .sized))
       ∙ take-all (8 * wordsOf s) (drop (2 * groupsOf s) xs) (omega (arith, length-drop (2 * groupsOf s) xs, parts .sized)) in
       let e : groupsOf s * 2 ≡ 2 * groupsOf s = omega arith in
-      sym (rw (heads, number-back, words, e) (take-append-drop (2 * groupsOf s) xs))
+      rw (heads, number-back, words, e) (take-append-drop (2 * groupsOf s) xs)
