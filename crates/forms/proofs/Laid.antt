@@ -1,15 +1,15 @@
 -- T1, by tag: the layout of a list that fits is accepted, and names the list.
 -- Assumes nothing.
-use mathlib.Core.Path.{_≡_, _∙_}
+use mathlib.Core.Path.{_≡_, refl, _∙_}
 use mathlib.Core.Bool.{true}
 use mathlib.Core.List.{List}
-use Prim.Native.Nat.{ℕ, _-_, _*_, _^_, _<_, _≤_}
-use native.Mathlib.Nat.{mul-comm}
+use Prim.Native.Nat.{ℕ, _-_, _*_, _^_, _<_, _≤_, min}
+use native.Mathlib.Nat.{mul-comm, le-min}
 use native.Mathlib.Omega.{arith}
 use lib.ListN.{length, getD}
-use borrow.Author.Tests.{eqb-true, leb-true}
+use borrow.Author.Tests.{eq-eqb, le-leb, eqb-true, leb-true}
 use Rattle.model.specs.Tests.{pick}
-use Rattle.model.specs.Lists.{Rising, runsOf}
+use Rattle.model.specs.Lists.{Rising, none, more, runsOf}
 use Rattle.model.proofs.Rising.{rising-room, rising-below, rising-wider}
 use Rattle.lists.specs.Lists.{listAccepts, listNames, listLayout}
 use Rattle.lists.proofs.Laws as lists
@@ -28,6 +28,44 @@ pub record LocalFits (tag span : ℕ) (rows : List ℕ) : Type 0 where
   pub some : 1 ≤ length rows
   pub few : length rows ≤ 65535
   pub shaped : localShaped tag span (length rows) ≡ true
+
+-- what each form asks of a rising list of 1 to 65535 positions
+within-both : {a b c : ℕ} {xs : List ℕ} → Rising a b xs → Rising a c xs → Rising a (min b c) xs
+within-both none s = none
+within-both (more l h r) (more m k s) = more l (le-min h k) (within-both r s)
+
+module _ {span : ℕ} {rows : List ℕ} (r : Rising 0 span rows) (some : 1 ≤ length rows) (few : length rows ≤ 65535) where
+  capped : (w : ℕ) → Rising 0 (256 ^ w) rows → Rising 0 (mostOf w span) rows
+  unfolding mostOf
+  capped w c = within-both r c
+
+  pub fits-dense : length rows ≡ span → LocalFits 1 span rows
+  unfolding localEnd localShaped byTag pick
+  fits-dense whole = record { inside = r; some = some; few = few; shaped = eq-eqb (length rows) span whole }
+
+  pub fits-wide-list : span ≤ 4294967296 → LocalFits 2 span rows
+  unfolding localEnd localShaped byTag pick
+  fits-wide-list h = record { inside = capped 4 (rising-wider (omega arith) h r); some = some; few = few; shaped = refl }
+
+  pub fits-list : Rising 0 65536 rows → LocalFits 3 span rows
+  unfolding localEnd localShaped byTag pick
+  fits-list c = record { inside = capped 2 c; some = some; few = few; shaped = refl }
+
+  pub fits-runs : Rising 0 65536 rows → LocalFits 4 span rows
+  unfolding localEnd localShaped byTag pick
+  fits-runs c = record { inside = capped 2 c; some = some; few = few; shaped = refl }
+
+  pub fits-wide-runs : span ≤ 4294967296 → LocalFits 5 span rows
+  unfolding localEnd localShaped byTag pick
+  fits-wide-runs h = record { inside = capped 4 (rising-wider (omega arith) h r); some = some; few = few; shaped = refl }
+
+  pub fits-bitmap : LocalFits 6 span rows
+  unfolding localEnd localShaped byTag pick
+  fits-bitmap = record { inside = r; some = some; few = few; shaped = refl }
+
+  pub fits-missing : span ≤ 65535 → LocalFits 7 span rows
+  unfolding localEnd localShaped byTag pick
+  fits-missing narrow = record { inside = r; some = some; few = few; shaped = le-leb span 65535 narrow }
 
 -- what is laid out is accepted and read back
 abbrev Kept : ℕ → List ℕ → ℕ → Type 0
