@@ -1,7 +1,7 @@
 -- The forms of a segment and of a whole row set with their costs, and the cheapest: document 01, "Costs".
 -- Assumes nothing.
 use mathlib.Core.Bool.{Bool, true, false}
-use mathlib.Core.List.{List, [], _∷_}
+use mathlib.Core.List.{List, [], _∷_, _++_}
 use Prim.Native.Nat.{ℕ, _+_, _-_, _*_, _≤_, _<_}
 use lib.Dec.{eqb, leb, ltb}
 use Rattle.model.specs.Tests.{pick}
@@ -60,37 +60,37 @@ least f (o ∷ os) = least (pick (o .allowed) (lesser f (o .form)) f) os
 
 -- ---- the cheapest local form, and the cheapest whole form over a span
 
-unfoldable pub localForm : Stats → Form
-localForm s =
-    least (itemsForm 3 false (2 * s .count) (s .count))
-    (given (eqb (holesOf s) 0) denseForm
+unfoldable pub localOffers : Stats → List Offer
+localOffers s =
+    given (eqb (holesOf s) 0) denseForm
     ∷ always (itemsForm 4 false (6 * s .runs) (s .runs))
     ∷ always (itemsForm 7 false (2 * holesOf s) (holesOf s))
     ∷ always (bitmapForm false 0 (spanOf s))
-    ∷ [])
+    ∷ []
+
+unfoldable pub localForm : Stats → Form
+localForm s = least (itemsForm 3 false (2 * s .count) (s .count)) (localOffers s)
 
 -- the runs of a whole row set: with 16-bit starts where every position has 16 bits, else with 32-bit ones
 unfoldable pub runsForm : Bool → ℕ → Form
 runsForm narrow n = pick narrow (itemsForm 4 false (4 + 6 * n) n) (itemsForm 5 false (4 + 8 * n) n)
 
--- the cheapest of those that count from position 0
-unfoldable pub plainForm : Stats → ℕ → Form
-plainForm s span =
-    least (itemsForm 2 false (4 * s .count) (s .count))
-    (given (eqb (s .count) span) denseForm
+-- those that count from position 0, and those that count from the first row
+unfoldable pub plainOffers : Stats → ℕ → List Offer
+plainOffers s span =
+    given (eqb (s .count) span) denseForm
     ∷ given (leb (s .last) 65535) (itemsForm 3 false (2 * s .count) (s .count))
     ∷ always (runsForm (leb (s .last) 65535) (s .runs))
     ∷ always (bitmapForm false 4 span)
     ∷ given (leb span 65535) (itemsForm 7 false (4 + 2 * (span - s .count)) (span - s .count))
-    ∷ [])
+    ∷ []
 
--- and of those with the ones that count from the first row
+unfoldable pub trimmedOffers : Stats → List Offer
+trimmedOffers s =
+    always (bitmapForm true 12 (spanOf s)) ∷ given (leb (spanOf s) 65535) (itemsForm 8 true (8 + 2 * holesOf s) (holesOf s)) ∷ []
+
 unfoldable pub wholeForm : Stats → ℕ → Form
-wholeForm s span =
-    least (plainForm s span)
-    (always (bitmapForm true 12 (spanOf s))
-    ∷ given (leb (spanOf s) 65535) (itemsForm 8 true (8 + 2 * holesOf s) (holesOf s))
-    ∷ [])
+wholeForm s span = least (itemsForm 2 false (4 * s .count) (s .count)) (plainOffers s span ++ trimmedOffers s)
 
 -- statistics of positions below a span that fits
 pub record Over (s : Stats) (span : ℕ) : Type 0 where

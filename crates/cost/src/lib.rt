@@ -1,10 +1,11 @@
 // What a segment's forms cost: its statistics, and the cheapest form.
 ghost use mathlib.Core.Path.{_≡_};
+ghost use mathlib.Core.Bool.{false};
 ghost use Prim.Native.Nat.{_+_, _*_, _<_, _≤_};
 ghost use Rattle.model.specs.Tests.{pick};
 ghost use Rattle.cost.specs.Statistics.{Sound, Neighbours, joined, spanOf, holesOf};
 ghost use Rattle.cost.specs.Sizes.{groupsOf, bitmapLength, depthOf};
-ghost use Rattle.cost.specs.Forms.{Over, itemsForm, bitmapForm, denseForm, orderOf, lex, keyOf, lesser, localForm, runsForm, plainForm, wholeForm};
+ghost use Rattle.cost.specs.Forms.{Over, itemsForm, bitmapForm, denseForm, orderOf, lex, keyOf, lesser, least, localForm, runsForm, plainOffers, wholeForm};
 
 // Statistics of some positions that rise: first and last, how many, and how many runs they make.
 pub struct Stats {
@@ -191,7 +192,7 @@ fn whole_runs(narrow: bool, runs: u64) -> Form
 // The cheapest of the forms that start at position 0.
 fn plain_form(s: Stats, span: u32) -> Form
     requires { ⌜ Over s span ⌝ }
-    ensures { λ r. ⌜ r ≡ plainForm s span ⌝ }
+    ensures { λ r. ⌜ r ≡ least (itemsForm 2 false (4 * s .count) (s .count)) (plainOffers s span) ⌝ }
 {
     let count = s.count as u64;
     let absent = (span as u64) - count;

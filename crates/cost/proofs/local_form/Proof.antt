@@ -2,12 +2,12 @@
 -- Assumes nothing.
 use borrow.Author.Needs.{needs}
 use Rattle.model.specs.Tests.{pick}
-use Rattle.cost.specs.Forms.{least, localForm}
+use Rattle.cost.specs.Forms.{least, localForm, localOffers}
 use Rattle.cost.proofs.local_form.Statement.{statement}
 use Rattle.cost.proofs.local_form.Tie as tie
 
 pub local-form-spec : {M : Type 1} → statement M
-unfolding localForm least pick
+unfolding localForm localOffers least pick
 local-form-spec =
     tie.close
     (tie.spec

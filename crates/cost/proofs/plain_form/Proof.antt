@@ -2,12 +2,12 @@
 -- Assumes nothing.
 use borrow.Author.Needs.{needs}
 use Rattle.model.specs.Tests.{pick}
-use Rattle.cost.specs.Forms.{least, plainForm}
+use Rattle.cost.specs.Forms.{least, plainOffers}
 use Rattle.cost.proofs.plain_form.Statement.{statement}
 use Rattle.cost.proofs.plain_form.Tie as tie
 
 pub plain-form-spec : {M : Type 1} → statement M
-unfolding plainForm least pick
+unfolding plainOffers least pick
 plain-form-spec =
     tie.close
     (tie.spec

@@ -2,12 +2,12 @@
 -- Assumes nothing.
 use borrow.Author.Needs.{needs}
 use Rattle.model.specs.Tests.{pick}
-use Rattle.cost.specs.Forms.{least, wholeForm}
+use Rattle.cost.specs.Forms.{least, plainOffers, trimmedOffers, wholeForm}
 use Rattle.cost.proofs.whole_form.Statement.{statement}
 use Rattle.cost.proofs.whole_form.Tie as tie
 
 pub whole-form-spec : {M : Type 1} → statement M
-unfolding wholeForm least pick
+unfolding wholeForm plainOffers trimmedOffers least pick
 whole-form-spec =
     tie.close
     (tie.spec
