@@ -3,3 +3,7 @@ pub mod Rising
 pub mod Standing
 pub mod Append
 pub mod Ranges
+pub mod Pieces
+pub mod Writing
+pub mod Complement
+pub mod Runs

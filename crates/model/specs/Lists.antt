@@ -3,7 +3,7 @@
 use mathlib.Core.Path.{_≡_}
 use mathlib.Core.Bool.{Bool, true, false}
 use mathlib.Core.List.{List, [], _∷_, _++_}
-use Prim.Native.Nat.{ℕ, zero, suc, _+_, _-_, _<_, _≤_}
+use Prim.Native.Nat.{ℕ, zero, suc, _+_, _-_, _%_, _<_, _≤_}
 use lib.Dec.{ltb, eqb}
 use lib.ListN.{length, take, drop, getD}
 use Rattle.model.specs.Tests.{pick}
@@ -50,6 +50,11 @@ unfoldable pub shift : ℕ → List ℕ → List ℕ
 shift b [] = []
 shift b (x ∷ xs) = (b + x) ∷ shift b xs
 
+-- the same in 32 bits, as a walk over any bytes writes it: where nothing passes 2^32 it is the shift
+unfoldable pub moved : ℕ → List ℕ → List ℕ
+moved b [] = []
+moved b (x ∷ xs) = (b + x) % 4294967296 ∷ moved b xs
+
 -- the positions from a up to b that a rising list leaves out
 unfoldable pub complement : ℕ → ℕ → List ℕ → List ℕ
 complement a b [] = range a (b - a)
@@ -80,5 +85,5 @@ runsOf (x ∷ xs) = onto x (runsOf xs)
 
 -- runs that are not empty, start at a or after, do not touch, and end at b or before
 pub data Apart : ℕ → ℕ → List Run → Type 0 where
-  none : {a b : ℕ} → Apart a b []
-  more : {a b : ℕ} {r : Run} {rs : List Run} → a ≤ r .start → 1 ≤ r .size → r .start + r .size ≤ b → Apart (suc (r .start + r .size)) b rs → Apart a b (r ∷ rs)
+  stop : {a b : ℕ} → Apart a b []
+  next : {a b : ℕ} {r : Run} {rs : List Run} → a ≤ r .start → 1 ≤ r .size → r .start + r .size ≤ b → Apart (suc (r .start + r .size)) b rs → Apart a b (r ∷ rs)
