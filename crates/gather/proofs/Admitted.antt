@@ -1,0 +1,149 @@
+-- What holds where tests 12, 3 and 2 passed: counts that cannot wrap, an entry in the table for each seed.
+-- Assumes nothing.
+use mathlib.Core.Path.{_≡_, refl, sym, ap, _∙_}
+use mathlib.Core.Bool.{Bool, true, false}
+use mathlib.Core.Logic.{⊎-elim}
+use mathlib.Core.List.{List}
+use Prim.Native.Nat.{ℕ, zero, suc, _+_, _-_, _/_, _<_, _≤_}
+use native.Mathlib.Omega.{arith}
+use lib.Dec.{eqb, ltb}
+use borrow.Author.Tests.{ltb-false, eqb-false, eq-eqb, ne-eqb}
+use Rattle.model.specs.Tests.{pick}
+use Rattle.model.specs.Answers.{Answer, accepted, refused}
+use Rattle.model.proofs.Tests.{either, never, pick-true, pick-false}
+use Rattle.gather.specs.declared.Gatherer.{Gatherer}
+use Rattle.gather.specs.Gather.{valuesOf, answered, kept, impossible, above, early, late, orElse, joins, added, rowNumber, Counted}
+
+-- ---- a chain of tests that came out 0, or false
+
+pub refuses-not : (t : Bool) (k x : ℕ) → (k ≡ 0 → ⊥) → pick t k x ≡ 0 → (t ≡ false) × (x ≡ 0)
+unfolding pick
+refuses-not true k x n e = absurd (n e)
+refuses-not false k x n e = (refl, e)
+
+pub holds-not : (t x : Bool) → pick t true x ≡ false → (t ≡ false) × (x ≡ false)
+unfolding pick
+holds-not true x e = never refl e
+holds-not false x e = (refl, e)
+
+pub passes : (t : Bool) (k x : ℕ) → (k ≡ 0 → ⊥) → pick t x k ≡ 0 → (t ≡ true) × (x ≡ 0)
+unfolding pick
+passes true k x n e = (refl, e)
+passes false k x n e = absurd (n e)
+
+pub neither : (a b : ℕ) → orElse a b ≡ 0 → (a ≡ 0) × (b ≡ 0)
+unfolding orElse
+neither zero b e = (refl, e)
+neither (suc a) b e = absurd (omega arith)
+
+-- ---- the number of a refusal, and what it makes of the answer and the table
+
+pub first-refuses : (a b : ℕ) → (a ≡ 0 → ⊥) → orElse a b ≡ a
+unfolding orElse
+first-refuses zero b n = absurd (n refl)
+first-refuses (suc a) b n = refl
+
+pub second-decides : (a b : ℕ) → a ≡ 0 → orElse a b ≡ b
+unfolding orElse
+second-decides a b e = rw e
+
+pub answered-yes : (k : ℕ) (g : Gatherer) → k ≡ 0 → answered k g ≡ accepted (valuesOf g)
+unfolding answered
+answered-yes k g e = rw e
+
+pub answered-no : (k : ℕ) (g : Gatherer) → (k ≡ 0 → ⊥) → answered k g ≡ refused k
+unfolding answered
+answered-no zero g n = absurd (n refl)
+answered-no (suc k) g n = refl
+
+pub kept-new : (k : ℕ) (old new : List ℕ) → k ≡ 0 → kept k old new ≡ new
+unfolding kept
+kept-new k old new e = rw e
+
+pub kept-old : (k : ℕ) (old new : List ℕ) → (k ≡ 0 → ⊥) → kept k old new ≡ old
+unfolding kept
+kept-old zero old new n = absurd (n refl)
+kept-old (suc k) old new n = refl
+
+-- ---- tests 12, 3 and 2
+
+pub record Passed (g : Gatherer) (room : ℕ) (rising : Bool) (n : ℕ) : Type 0 where
+  pub in-room : g .entries ≤ room
+  pub rises : rising ≡ true
+  pub counted : Counted g n
+
+module _ (g : Gatherer) (room : ℕ) where
+  possible : impossible g room ≡ false → (g .entries ≤ room) × (g .entries ≤ g .rows) × ((g .rows ≡ 0 → ⊥) → 1 ≤ g .entries)
+  unfolding impossible
+  possible e =
+      let a = holds-not _ _ e in
+      let b = holds-not _ _ (a .1) in (
+        ltb-false _ _ (a .0),
+        ltb-false _ _ (b .0),
+        λ n.
+            let d : eqb (g .entries) 0 ≡ false = holds-not _ _ (sym (pick-false _ _ (ne-eqb _ _ n)) ∙ b .1) .0 in
+            omega (arith, eqb-false (g .entries) 0 d),
+      )
+
+  pub passed : (rising : Bool) (n : ℕ) → early g room rising n ≡ 0 → Passed g room rising n
+  unfolding early
+  passed rising n e =
+      let a = refuses-not _ 12 _ (λ z. omega arith) e in
+      let b = passes rising 3 _ (λ z. omega arith) (a .1) in
+      let d = refuses-not _ 2 0 (λ z. omega arith) (b .1) in
+      let p = possible (a .0) in
+      record { in-room = p .0; rises = b .0; counted = record { few = ltb-false _ _ (d .0); in-rows = p .1; some = p .2 } }
+
+pub fits : (after : Gatherer) (room : ℕ) → late after room ≡ 0 → after .entries ≤ room
+unfolding late
+fits after room e = ltb-false _ _ (refuses-not _ 11 0 (λ z. omega arith) e .0)
+
+-- ---- a single row
+
+pub record After (g : Gatherer) (row : ℕ) : Type 0 where
+  pub total : added g row .rows ≡ g .rows + 1
+  pub newest : added g row .last ≡ row
+  pub low : g .entries ≤ added g row .entries
+  pub high : added g row .entries ≤ g .entries + 1
+  pub some : ((g .rows ≡ 0 → ⊥) → 1 ≤ g .entries) → 1 ≤ added g row .entries
+
+-- a row that joins has a row before it
+pub joins-some : (g : Gatherer) (row : ℕ) → joins g row ≡ true → g .rows ≡ 0 → ⊥
+unfolding joins
+joins-some g row e z = never e (pick-true _ _ (eq-eqb _ _ z))
+
+abbrev joined : Gatherer → ℕ → Gatherer
+joined g row = record { entries = g .entries; rows = g .rows + 1; first = g .first; last = row }
+
+abbrev begun : Gatherer → ℕ → Gatherer
+begun g row = record { entries = g .entries + 1; rows = g .rows + 1; first = row; last = row }
+
+pub added-joins : (g : Gatherer) (row : ℕ) → joins g row ≡ true → added g row ≡ joined g row
+unfolding added
+added-joins g row e = pick-true _ _ e
+
+pub added-begins : (g : Gatherer) (row : ℕ) → joins g row ≡ false → added g row ≡ begun g row
+unfolding added
+added-begins g row e = pick-false _ _ e
+
+-- either way, of the record x that comes of it
+after-of : (g : Gatherer) (row : ℕ) (x : Gatherer) → added g row ≡ x → x .rows ≡ g .rows + 1 → x .last ≡ row → g .entries ≤ x .entries → x .entries ≤ g .entries + 1 → (((g .rows ≡ 0 → ⊥) → 1 ≤ g .entries) → 1 ≤ x .entries) → After g row
+after-of g row x e a b d f h = record { total = rw e a; newest = rw e b; low = rw e d; high = rw e f; some = rw e h }
+
+pub after : (g : Gatherer) (row : ℕ) → After g row
+after g row =
+    ⊎-elim
+    (λ e. after-of g row (joined g row) (added-joins g row e) refl refl (omega arith) (omega arith) (λ k. k (joins-some g row e)))
+    (λ e. after-of g row (begun g row) (added-begins g row e) refl refl (omega arith) (omega arith) (λ k. omega arith))
+    (either (joins g row))
+
+pub after-counted : (g : Gatherer) (row n : ℕ) → Counted g (suc n) → Counted (added g row) n
+after-counted g row n k =
+    let a = after g row in
+    record { few = omega arith; in-rows = omega arith; some = λ z. a .some (k .some) }
+
+pub row-admitted : (g : Gatherer) (room row : ℕ) → rowNumber g room row ≡ 0 → Counted g 1 × (added g row .entries ≤ room)
+unfolding rowNumber
+row-admitted g room row e =
+    let a = neither _ _ e in
+    (passed g room (above g row) 1 (a .0) .counted, fits (added g row) room (a .1))
