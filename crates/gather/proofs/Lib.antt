@@ -1,1 +1,3 @@
 pub mod Admitted
+pub mod Singly
+pub mod Pages

@@ -88,8 +88,11 @@ rowTable g t row = kept (rowNumber g (length t) row) t (addedTo t g row)
 -- ---- a page
 
 -- rows that rise strictly
+unfoldable pub upAt : List ℕ → ℕ → Bool
+upAt rows i = ltb (getD rows i 0) (getD rows (i + 1) 0)
+
 unfoldable pub rises : List ℕ → Bool
-rises rows = all (λ (i : ℕ). ltb (getD rows i 0) (getD rows (suc i) 0)) (length rows - 1)
+rises rows = all (upAt rows) (length rows - 1)
 
 abbrev pub firstOf : List ℕ → ℕ
 firstOf rows = getD rows 0 0
@@ -110,22 +113,23 @@ unfoldable pub addedAllTo : List ℕ → Gatherer → List ℕ → List ℕ
 addedAllTo t g [] = t
 addedAllTo t g (r ∷ rs) = addedAllTo (addedTo t g r) (added g r) rs
 
+-- the record with a page in that is one seed
+unfoldable pub seeded : Gatherer → List ℕ → Gatherer
+seeded g rows = record { entries = g .entries + 1; rows = g .rows + length rows; first = firstOf rows; last = lastOf rows }
+
 -- the record and the table with a page in that is not empty: one seed more, or row by row
 unfoldable pub paged : Gatherer → List ℕ → Gatherer
-paged g rows =
-    pick (oneSeed rows)
-    (record { entries = g .entries + 1; rows = g .rows + length rows; first = firstOf rows; last = lastOf rows })
-    (addedAll g rows)
+paged g rows = pick (oneSeed rows) (seeded g rows) (addedAll g rows)
 
 unfoldable pub pagedTo : List ℕ → Gatherer → List ℕ → List ℕ
 pagedTo t g rows = pick (oneSeed rows) (set t (g .entries) (g .rows + length rows)) (addedAllTo t g rows)
 
+unfoldable pub someNumber : Gatherer → ℕ → List ℕ → ℕ
+someNumber g room rows = orElse (early g room (both (above g (firstOf rows)) (rises rows)) (length rows)) (late (paged g rows) room)
+
 -- after test 12 an empty page is accepted and changes nothing
 unfoldable pub pageNumber : Gatherer → ℕ → List ℕ → ℕ
-pageNumber g room rows =
-    pick (eqb (length rows) 0)
-    (pick (impossible g room) 12 0)
-    (orElse (early g room (both (above g (firstOf rows)) (rises rows)) (length rows)) (late (paged g rows) room))
+pageNumber g room rows = pick (eqb (length rows) 0) (pick (impossible g room) 12 0) (someNumber g room rows)
 
 unfoldable pub pageAnswer : Gatherer → ℕ → List ℕ → Answer
 pageAnswer g room rows = answered (pageNumber g room rows) (pick (eqb (length rows) 0) g (paged g rows))
@@ -140,3 +144,9 @@ pub record Counted (g : Gatherer) (n : ℕ) : Type 0 where
   pub few : g .rows + n ≤ 65535
   pub in-rows : g .entries ≤ g .rows
   pub some : (g .rows ≡ 0 → ⊥) → 1 ≤ g .entries
+
+-- and room for a page that is not empty
+pub record Paging (g : Gatherer) (room : ℕ) (rows : List ℕ) : Type 0 where
+  pub counted : Counted g (length rows)
+  pub any : 0 < length rows
+  pub in-room : paged g rows .entries ≤ room

@@ -1,10 +1,9 @@
 // Gathering: the ends of seeds, written into a lent table, with a small record of where gathering stands.
 ghost use mathlib.Core.Path.{_≡_};
-ghost use Prim.Native.Nat.{_+_, _-_, _<_, _≤_};
+ghost use Prim.Native.Nat.{_+_, _<_, _≤_};
 ghost use lib.Dec.{ltb};
-ghost use lib.ListN.{length, drop, getD};
-ghost use Rattle.model.specs.Tests.{both};
-ghost use Rattle.gather.specs.Gather.{answerOf, impossible, above, early, late, joins, added, addedTo, rowNumber, rowAnswer, rowTable, rises, firstOf, oneSeed, addedAll, addedAllTo, paged, pagedTo, pageNumber, pageAnswer, pageTable, Counted};
+ghost use lib.ListN.{length};
+ghost use Rattle.gather.specs.Gather.{answerOf, impossible, above, early, late, joins, added, addedTo, rowNumber, rowAnswer, rowTable, rises, oneSeed, addedAll, addedAllTo, seeded, paged, pagedTo, someNumber, pageAnswer, pageTable, Counted, Paging};
 
 // Entries of the table in use, rows gathered, first row of the last seed, last row.
 pub struct Gatherer {
@@ -153,4 +152,129 @@ pub fn gather_row(g: Gatherer, table: &mut [u16], row: u64) -> Gathered
         return Gathered::Refused(k);
     }
     Gathered::Record(put_row(g, table, row))
+}
+
+// Whether rows rise strictly.
+fn rises(rows: &[u64]) -> bool
+    ensures { λ r. ⌜ r ≡ rises (now (rows .entry)) ⌝ }
+{
+    let mut ok = true;
+    let mut i = 0;
+    while i + 1 < rows.len() {
+        ok = ok & (rows[i] < rows[i + 1]);
+        i += 1;
+    }
+    ok
+}
+
+// Whether a page that is not empty is one seed.
+fn one_seed(rows: &[u64]) -> bool
+    requires { ⌜ 0 < length (now rows) ⌝ }
+    ensures { λ r. ⌜ r ≡ oneSeed (now (rows .entry)) ⌝ }
+{
+    let first = rows[0];
+    let last = rows[rows.len() - 1];
+    if last <= first {
+        return true;
+    }
+    last - first < 65535
+}
+
+// The record with rows in, each added singly.
+fn added_all(g: Gatherer, rows: &[u64]) -> Gatherer
+    requires { ⌜ Counted g (length (now rows)) ⌝ }
+    ensures { λ r. ⌜ r ≡ addedAll g (now (rows .entry)) ⌝ }
+{
+    let mut h = g;
+    let mut i = 0;
+    while i < rows.len() {
+        h = added(h, rows[i]);
+        i += 1;
+    }
+    h
+}
+
+// The same with the table, where there is room.
+fn put_rows(g: Gatherer, table: &mut [u16], rows: &[u64]) -> Gatherer
+    requires { ⌜ Counted g (length (now rows)) × (addedAll g (now rows) .entries ≤ length (now table)) ⌝ }
+    ensures { λ r. ⌜ (r ≡ addedAll g (now (rows .entry))) × (now (table .exit) ≡ addedAllTo (now (table .entry)) g (now (rows .entry))) ⌝ }
+{
+    let mut h = g;
+    let mut i = 0;
+    while i < rows.len() {
+        h = put_row(h, table, rows[i]);
+        i += 1;
+    }
+    h
+}
+
+// The record with a page in that is one seed.
+fn seeded(g: Gatherer, rows: &[u64]) -> Gatherer
+    requires { ⌜ Counted g (length (now rows)) × (0 < length (now rows)) ⌝ }
+    ensures { λ r. ⌜ r ≡ seeded g (now (rows .entry)) ⌝ }
+{
+    let n = rows.len();
+    Gatherer {
+        entries: g.entries + 1,
+        rows: g.rows + n,
+        first: rows[0],
+        last: rows[n - 1],
+    }
+}
+
+// The record with a page in that is not empty.
+fn paged(g: Gatherer, rows: &[u64]) -> Gatherer
+    requires { ⌜ Counted g (length (now rows)) × (0 < length (now rows)) ⌝ }
+    ensures { λ r. ⌜ r ≡ paged g (now (rows .entry)) ⌝ }
+{
+    if one_seed(rows) {
+        seeded(g, rows)
+    } else {
+        added_all(g, rows)
+    }
+}
+
+// The number of a refusal of a page that is not empty, or 0.
+fn some_number(g: Gatherer, room: usize, rows: &[u64]) -> u8
+    requires { ⌜ 0 < length (now rows) ⌝ }
+    ensures { λ r. ⌜ r ≡ someNumber g room (now (rows .entry)) ⌝ }
+{
+    let rising = above(g, rows[0]) & rises(rows);
+    let k = early(g, room, rising, rows.len());
+    if k != 0 {
+        return k;
+    }
+    late(paged(g, rows), room)
+}
+
+// The record and the table with a page in that is not empty, where there is room.
+fn put_page(g: Gatherer, table: &mut [u16], rows: &[u64]) -> Gatherer
+    requires { ⌜ Paging g (length (now table)) (now rows) ⌝ }
+    ensures { λ r. ⌜ (r ≡ paged g (now (rows .entry))) × (now (table .exit) ≡ pagedTo (now (table .entry)) g (now (rows .entry))) ⌝ }
+{
+    if one_seed(rows) {
+        let next = seeded(g, rows);
+        let at = g.entries;
+        table[at] = end_of(next.rows);
+        next
+    } else {
+        put_rows(g, table, rows)
+    }
+}
+
+// A page: the record with it in, and its seeds' ends in the table; or a refusal, and the table as it was.
+pub fn gather_page(g: Gatherer, table: &mut [u16], rows: &[u64]) -> Gathered
+    ensures { λ r. ⌜ (answerOf r ≡ pageAnswer g (length (now (table .entry))) (now (rows .entry))) × (now (table .exit) ≡ pageTable g (now (table .entry)) (now (rows .entry))) ⌝ }
+{
+    if rows.len() == 0 {
+        if impossible(g, table.len()) {
+            return Gathered::Refused(12);
+        }
+        return Gathered::Record(g);
+    }
+    let k = some_number(g, table.len(), rows);
+    if k != 0 {
+        return Gathered::Refused(k);
+    }
+    Gathered::Record(put_page(g, table, rows))
 }
