@@ -7,3 +7,4 @@ pub mod Pieces
 pub mod Writing
 pub mod Complement
 pub mod Runs
+pub mod Examples
