@@ -1,3 +1,5 @@
 pub mod Admitted
 pub mod Singly
 pub mod Pages
+pub mod Answers
+pub mod Examples
