@@ -7,12 +7,13 @@ use mathlib.Core.List.{List}
 use Prim.Native.Nat.{ℕ, zero, suc, _+_, _-_, _/_, _<_, _≤_}
 use native.Mathlib.Omega.{arith}
 use lib.Dec.{eqb, ltb}
-use borrow.Author.Tests.{ltb-false, eqb-false, eq-eqb, ne-eqb}
+use lib.ListN.{length, length-set}
+use borrow.Author.Tests.{ltb-false, eqb-true, eqb-false, eq-eqb, ne-eqb}
 use Rattle.model.specs.Tests.{both, pick}
 use Rattle.model.specs.Answers.{Answer, accepted, refused}
 use Rattle.model.proofs.Tests.{either, never, pick-true, pick-false}
 use Rattle.gather.specs.declared.Gatherer.{Gatherer}
-use Rattle.gather.specs.Gather.{valuesOf, answered, kept, impossible, above, early, late, orElse, joins, added, rowNumber, Counted}
+use Rattle.gather.specs.Gather.{valuesOf, answered, kept, impossible, above, early, late, orElse, joins, added, addedTo, rowNumber, Counted}
 
 -- ---- a chain of tests that came out 0, or false
 
@@ -117,10 +118,14 @@ pub joins-some : (g : Gatherer) (row : ℕ) → joins g row ≡ true → g .rows
 unfolding joins
 joins-some g row e z = never e (pick-true _ _ (eq-eqb _ _ z))
 
-abbrev joined : Gatherer → ℕ → Gatherer
+pub joins-window : (g : Gatherer) (row : ℕ) → joins g row ≡ true → row / 4096 ≡ g .first / 4096
+unfolding joins
+joins-window g row e = eqb-true _ _ (sym (pick-false _ _ (ne-eqb (g .rows) 0 (joins-some g row e))) ∙ e)
+
+abbrev pub joined : Gatherer → ℕ → Gatherer
 joined g row = record { entries = g .entries; rows = g .rows + 1; first = g .first; last = row }
 
-abbrev begun : Gatherer → ℕ → Gatherer
+abbrev pub begun : Gatherer → ℕ → Gatherer
 begun g row = record { entries = g .entries + 1; rows = g .rows + 1; first = row; last = row }
 
 pub added-joins : (g : Gatherer) (row : ℕ) → joins g row ≡ true → added g row ≡ joined g row
@@ -141,6 +146,10 @@ after g row =
     (λ e. after-of g row (joined g row) (added-joins g row e) refl refl (omega arith) (omega arith) (λ k. k (joins-some g row e)))
     (λ e. after-of g row (begun g row) (added-begins g row e) refl refl (omega arith) (omega arith) (λ k. omega arith))
     (either (joins g row))
+
+pub added-length : (t : List ℕ) (g : Gatherer) (row : ℕ) → length (addedTo t g row) ≡ length t
+unfolding addedTo
+added-length t g row = simp length-set
 
 pub after-counted : (g : Gatherer) (row n : ℕ) → Counted g (suc n) → Counted (added g row) n
 after-counted g row n k =

@@ -3,3 +3,5 @@ pub mod Singly
 pub mod Pages
 pub mod Answers
 pub mod Examples
+pub mod Seeds
+pub mod Windows
