@@ -8,7 +8,7 @@ use Prim.Native.Nat.{ℕ, zero, suc, _+_, _-_, _/_, _<_, _≤_}
 use native.Mathlib.Omega.{arith}
 use lib.Dec.{eqb, ltb}
 use lib.ListN.{length, length-set}
-use borrow.Author.Tests.{ltb-false, eqb-true, eqb-false, eq-eqb, ne-eqb}
+use borrow.Author.Tests.{ltb-false, le-ltb, eqb-true, eqb-false, eq-eqb, ne-eqb}
 use Rattle.model.specs.Tests.{both, pick}
 use Rattle.model.specs.Answers.{Answer, accepted, refused}
 use Rattle.model.proofs.Tests.{either, never, pick-true, pick-false}
@@ -73,23 +73,42 @@ kept-old (suc k) old new n = refl
 
 -- ---- tests 12, 3 and 2
 
-pub record Passed (g : Gatherer) (room : ℕ) (rising : Bool) (n : ℕ) : Type 0 where
+-- a record that test 12 lets pass
+pub record Able (g : Gatherer) (room : ℕ) : Type 0 where
   pub in-room : g .entries ≤ room
+  pub in-rows : g .entries ≤ g .rows
+  pub some : (g .rows ≡ 0 → ⊥) → 1 ≤ g .entries
+  pub ordered : (g .rows ≡ 0 → ⊥) → g .first ≤ g .last
+
+pub record Passed (g : Gatherer) (room : ℕ) (rising : Bool) (n : ℕ) : Type 0 where
+  pub able : Able g room
   pub rises : rising ≡ true
   pub counted : Counted g n
 
 module _ (g : Gatherer) (room : ℕ) where
-  possible : impossible g room ≡ false → (g .entries ≤ room) × (g .entries ≤ g .rows) × ((g .rows ≡ 0 → ⊥) → 1 ≤ g .entries)
+  possible : impossible g room ≡ false → Able g room
   unfolding impossible
   possible e =
       let a = holds-not _ _ e in
-      let b = holds-not _ _ (a .1) in (
-        ltb-false _ _ (a .0),
-        ltb-false _ _ (b .0),
-        λ n.
-            let d : eqb (g .entries) 0 ≡ false = holds-not _ _ (sym (pick-false _ _ (ne-eqb _ _ n)) ∙ b .1) .0 in
-            omega (arith, eqb-false (g .entries) 0 d),
-      )
+      let b = holds-not _ _ (a .1) in
+      let with-rows : (g .rows ≡ 0 → ⊥) → (eqb (g .entries) 0 ≡ false) × (ltb (g .last) (g .first) ≡ false) = λ n. holds-not _ _ (sym (pick-false _ _ (ne-eqb _ _ n)) ∙ b .1) in
+      record {
+        in-room = ltb-false _ _ (a .0);
+        in-rows = ltb-false _ _ (b .0);
+        some = λ n. omega (arith, eqb-false (g .entries) 0 (with-rows n .0));
+        ordered = λ n. ltb-false (g .last) (g .first) (with-rows n .1);
+      }
+
+  able-possible : Able g room → impossible g room ≡ false
+  unfolding impossible
+  able-possible a =
+      pick-false _ _ (le-ltb room (g .entries) (a .in-room)) ∙ pick-false _ _ (le-ltb (g .rows) (g .entries) (a .in-rows))
+      ∙ ⊎-elim
+      (λ e. pick-true _ _ e)
+      (λ e.
+      let n = eqb-false (g .rows) 0 e in
+      pick-false _ _ e ∙ pick-false _ _ (ne-eqb (g .entries) 0 (λ z. omega (arith, a .some n))) ∙ le-ltb (g .last) (g .first) (a .ordered n))
+      (either (eqb (g .rows) 0))
 
   pub passed : (rising : Bool) (n : ℕ) → early g room rising n ≡ 0 → Passed g room rising n
   unfolding early
@@ -98,11 +117,20 @@ module _ (g : Gatherer) (room : ℕ) where
       let b = passes rising 3 _ (λ z. omega arith) (a .1) in
       let d = refuses-not _ 2 0 (λ z. omega arith) (b .1) in
       let p = possible (a .0) in
-      record { in-room = p .0; rises = b .0; counted = record { few = ltb-false _ _ (d .0); in-rows = p .1; some = p .2 } }
+      record { able = p; rises = b .0; counted = record { few = ltb-false _ _ (d .0); in-rows = p .in-rows; some = p .some } }
+
+  pub passing : (rising : Bool) (n : ℕ) → Passed g room rising n → early g room rising n ≡ 0
+  unfolding early
+  passing rising n p =
+      pick-false _ _ (able-possible (p .able)) ∙ pick-true _ _ (p .rises) ∙ pick-false _ _ (le-ltb 65535 (g .rows + n) (p .counted .few))
 
 pub fits : (after : Gatherer) (room : ℕ) → late after room ≡ 0 → after .entries ≤ room
 unfolding late
 fits after room e = ltb-false _ _ (refuses-not _ 11 0 (λ z. omega arith) e .0)
+
+pub fitting : (after : Gatherer) (room : ℕ) → after .entries ≤ room → late after room ≡ 0
+unfolding late
+fitting after room h = pick-false _ _ (le-ltb room (after .entries) h)
 
 -- ---- a single row
 

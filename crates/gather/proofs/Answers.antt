@@ -12,7 +12,7 @@ use Rattle.gather.specs.declared.Gathered.the-variants.{Record, Refused}
 use Rattle.gather.specs.Gather.{answerOf}
 
 -- a record from its values
-abbrev ofValues : List ℕ → Gatherer
+abbrev pub ofValues : List ℕ → Gatherer
 ofValues vs = record { entries = getD vs 0 0; rows = getD vs 1 0; first = getD vs 2 0; last = getD vs 3 0 }
 
 pub answers-same : (a b : Gathered) → answerOf a ≡ answerOf b → a ≡ b

@@ -5,3 +5,4 @@ pub mod Answers
 pub mod Examples
 pub mod Seeds
 pub mod Windows
+pub mod InTurn

@@ -22,8 +22,8 @@ kept-same (suc k) t = refl
 
 module _ (g : Gatherer) (rows : List ℕ) (e : length rows ≡ 0) where
   pub empty-answer : (room : ℕ) → pageAnswer g room rows ≡ answered (pick (impossible g room) 12 0) g
-  unfolding pageAnswer pageNumber
-  empty-answer room = rw (pick-true _ _ (eq-eqb (length rows) 0 e), pick-true _ _ (eq-eqb (length rows) 0 e))
+  unfolding pageAnswer pageNumber pick
+  empty-answer room = rw (eq-eqb (length rows) 0 e)
 
   pub empty-table : (t : List ℕ) → pageTable g t rows ≡ t
   unfolding pageTable
