@@ -2,3 +2,5 @@ pub mod Depths
 pub mod Choices
 pub mod Least
 pub mod Joining
+pub mod RunByRun
+pub mod Positions
