@@ -4,3 +4,4 @@ pub mod Least
 pub mod Joining
 pub mod RunByRun
 pub mod Positions
+pub mod Examples
