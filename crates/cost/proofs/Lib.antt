@@ -5,3 +5,4 @@ pub mod Joining
 pub mod RunByRun
 pub mod Positions
 pub mod Examples
+pub mod Chosen
