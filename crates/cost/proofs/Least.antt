@@ -118,10 +118,10 @@ step-one P f o p q =
     ⊎-elim
     (λ t.
     ⊎-elim
-    (λ e. rw (pick-true {A = Form} _ _ t, pick-true _ _ e) (q t))
-    (λ e. rw (pick-true _ _ t, pick-false _ _ e) p)
+    (λ e. rw (pick-true (lesser f (o .form)) f t, pick-true (o .form) f e) (q t))
+    (λ e. rw (pick-true (lesser f (o .form)) f t, pick-false (o .form) f e) p)
     (either (lex (keyOf (o .form)) (keyOf f))))
-    (λ t. rw (pick-false _ _ t) p)
+    (λ t. rw (pick-false (lesser f (o .form)) f t) p)
     (either (o .allowed))
 
 pub data Each (P : Form → Type 0) : List Offer → Type 0 where

@@ -6,3 +6,4 @@ pub mod RunByRun
 pub mod Positions
 pub mod Examples
 pub mod Chosen
+pub mod Layouts
