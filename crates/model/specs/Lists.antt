@@ -3,7 +3,7 @@
 use mathlib.Core.Path.{_≡_}
 use mathlib.Core.Bool.{Bool, true, false}
 use mathlib.Core.List.{List, [], _∷_, _++_}
-use Prim.Native.Nat.{ℕ, zero, suc, _+_, _-_, _<_, _≤_}
+use Prim.Native.Nat.{ℕ, zero, suc, _+_, _-_, _%_, _<_, _≤_}
 use lib.Dec.{ltb, eqb}
 use lib.ListN.{length, take, drop, getD}
 use Rattle.model.specs.Tests.{pick}
@@ -49,6 +49,11 @@ range a (suc n) = a ∷ range (suc a) n
 unfoldable pub shift : ℕ → List ℕ → List ℕ
 shift b [] = []
 shift b (x ∷ xs) = (b + x) ∷ shift b xs
+
+-- the same in 32 bits, as a walk over any bytes writes it: where nothing passes 2^32 it is the shift
+unfoldable pub moved : ℕ → List ℕ → List ℕ
+moved b [] = []
+moved b (x ∷ xs) = (b + x) % 4294967296 ∷ moved b xs
 
 -- the positions from a up to b that a rising list leaves out
 unfoldable pub complement : ℕ → ℕ → List ℕ → List ℕ

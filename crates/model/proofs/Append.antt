@@ -1,0 +1,134 @@
+-- Place and select under append and under a shift.
+-- Assumes nothing.
+use mathlib.Core.Path.{_≡_, refl, sym, ap, ap₂, _∙_}
+use mathlib.Core.Bool.{Bool, true, false}
+use mathlib.Core.Logic.{_⊎_, ⊎-elim}
+use mathlib.Core.List.{List, [], _∷_, _++_}
+use Prim.Native.Nat.{ℕ, zero, suc, _+_, _-_, _<_, _≤_}
+use native.Mathlib.Nat.{zero-add, add-zero, suc-add, add-suc, add-assoc}
+use native.Mathlib.Omega.{arith}
+use lib.ListN.{length, getD, take, drop, length-append, List·getD-append}
+use lib.Seq.{getD-append-add}
+use Rattle.model.specs.Tests.{pick}
+use Rattle.model.specs.Lists.{Rising, none, more, below, has, placeOf, shift}
+use Rattle.model.specs.declared.Place.{Place}
+use Rattle.model.proofs.Tests.{either, order, pick-true, pick-false, same-or-not}
+use Rattle.model.proofs.Standing.{below-under, below-past, below-none, below-whole, has-here, has-later, has-outside}
+
+-- ---- append
+
+pub below-append : (xs ys : List ℕ) (p : ℕ) → below (xs ++ ys) p ≡ below xs p + below ys p
+unfolding below
+below-append [] ys p = sym (zero-add (below ys p))
+below-append (x ∷ xs) ys p =
+    ⊎-elim
+    (λ l. rw (below-under x (xs ++ ys) p l, below-under x xs p l, suc-add) (ap suc (below-append xs ys p)))
+    (λ g. rw (below-past x (xs ++ ys) p g, below-past x xs p g) (below-append xs ys p))
+    (order x p)
+
+pub has-append : (xs ys : List ℕ) (p : ℕ) → has (xs ++ ys) p ≡ pick (has xs p) true (has ys p)
+unfolding has
+has-append [] ys p = sym (pick-false _ _ refl)
+has-append (x ∷ xs) ys p =
+    ⊎-elim
+    (λ q. rw (has-here x (xs ++ ys) p q, has-here x xs p q) (sym (pick-true _ _ refl)))
+    (λ n. rw (has-later x (xs ++ ys) p n, has-later x xs p n) (has-append xs ys p))
+    (same-or-not x p)
+
+pick-self : (t : Bool) → pick t true false ≡ t
+unfolding pick
+pick-self true = refl
+pick-self false = refl
+
+pub has-left : (xs ys : List ℕ) (p : ℕ) → has ys p ≡ false → has (xs ++ ys) p ≡ has xs p
+has-left xs ys p e = has-append xs ys p ∙ rw e (pick-self (has xs p))
+
+pub has-right : (xs ys : List ℕ) (p : ℕ) → has xs p ≡ false → has (xs ++ ys) p ≡ has ys p
+has-right xs ys p e = has-append xs ys p ∙ pick-false _ _ e
+
+-- the k-th of the second list
+pub getD-second : (xs ys : List ℕ) (k : ℕ) → length xs ≤ k → getD (xs ++ ys) k 0 ≡ getD ys (k - length xs) 0
+getD-second xs ys k h =
+    let e : k ≡ length xs + (k - length xs) = omega arith in
+    ap (λ (n : ℕ). getD (xs ++ ys) n 0) e ∙ getD-append-add xs ys (k - length xs) 0
+
+-- a rising list in two parts, at m: below m only the first counts, from m on the first is passed
+module _ {a m b : ℕ} {xs ys : List ℕ} (r : Rising a m xs) (s : Rising m b ys) (p : ℕ) where
+  pub place-first : p < m → placeOf (xs ++ ys) p ≡ placeOf xs p
+  unfolding placeOf
+  place-first h =
+      let e : below (xs ++ ys) p ≡ below xs p = rw (below-append, below-none s p (omega arith), add-zero) in
+      rw (e, has-left xs ys p (has-outside s p (λ w. omega (arith, w .0))))
+
+  pub below-second : m ≤ p → below (xs ++ ys) p ≡ length xs + below ys p
+  below-second h = below-append xs ys p ∙ rw (below-whole r p h)
+
+  pub has-second : m ≤ p → has (xs ++ ys) p ≡ has ys p
+  has-second h = has-right xs ys p (has-outside r p (λ w. omega (arith, w .1)))
+
+-- ---- shift
+
+pub length-shift : (b : ℕ) (xs : List ℕ) → length (shift b xs) ≡ length xs
+unfolding shift
+length-shift b [] = refl
+length-shift b (x ∷ xs) = ap suc (length-shift b xs)
+
+pub getD-shift : (b : ℕ) (xs : List ℕ) (k : ℕ) → k < length xs → getD (shift b xs) k 0 ≡ b + getD xs k 0
+unfolding shift
+getD-shift b [] k h = absurd (omega arith)
+getD-shift b (x ∷ xs) zero h = refl
+getD-shift b (x ∷ xs) (suc k) h = getD-shift b xs k (omega arith)
+
+pub shift-rising : {a c : ℕ} {xs : List ℕ} (b : ℕ) → Rising a c xs → Rising (b + a) (b + c) (shift b xs)
+unfolding shift
+shift-rising b none = none
+shift-rising {a} {c} b (more {x = x} l h r) = more {a = b + a} {b = b + c} {x = b + x} (omega arith) (omega arith) (rw (add-suc b x) at (shift-rising b r))
+
+pub shift-append : (b : ℕ) (xs ys : List ℕ) → shift b (xs ++ ys) ≡ shift b xs ++ shift b ys
+unfolding shift
+shift-append b [] ys = refl
+shift-append b (x ∷ xs) ys = rw (shift-append b xs ys)
+
+pub shift-zero : (xs : List ℕ) → shift 0 xs ≡ xs
+unfolding shift
+shift-zero [] = refl
+shift-zero (x ∷ xs) = rw (shift-zero xs, zero-add)
+
+pub shift-shift : (b c : ℕ) (xs : List ℕ) → shift b (shift c xs) ≡ shift (b + c) xs
+unfolding shift
+shift-shift b c [] = refl
+shift-shift b c (x ∷ xs) = rw (shift-shift b c xs, add-assoc)
+
+pub shift-take : (b n : ℕ) (xs : List ℕ) → shift b (take n xs) ≡ take n (shift b xs)
+unfolding shift
+shift-take b zero xs = refl
+shift-take b (suc n) [] = refl
+shift-take b (suc n) (x ∷ xs) = rw (shift-take b n xs)
+
+pub shift-drop : (b n : ℕ) (xs : List ℕ) → shift b (drop n xs) ≡ drop n (shift b xs)
+unfolding shift
+shift-drop b zero xs = refl
+shift-drop b (suc n) [] = refl
+shift-drop b (suc n) (x ∷ xs) = shift-drop b n xs
+
+pub below-shift : (b : ℕ) (xs : List ℕ) (p : ℕ) → below (shift b xs) (b + p) ≡ below xs p
+unfolding below shift
+below-shift b [] p = refl
+below-shift b (x ∷ xs) p =
+    ⊎-elim
+    (λ l. below-under (b + x) (shift b xs) (b + p) (omega arith) ∙ ap suc (below-shift b xs p) ∙ sym (below-under x xs p l))
+    (λ g. below-past (b + x) (shift b xs) (b + p) (omega arith) ∙ below-shift b xs p ∙ sym (below-past x xs p g))
+    (order x p)
+
+pub has-shift : (b : ℕ) (xs : List ℕ) (p : ℕ) → has (shift b xs) (b + p) ≡ has xs p
+unfolding has shift
+has-shift b [] p = refl
+has-shift b (x ∷ xs) p =
+    ⊎-elim
+    (λ (q : x ≡ p). has-here (b + x) (shift b xs) (b + p) (rw q) ∙ sym (has-here x xs p q))
+    (λ n. has-later (b + x) (shift b xs) (b + p) (λ e. n (omega arith)) ∙ has-shift b xs p ∙ sym (has-later x xs p n))
+    (same-or-not x p)
+
+pub place-shift : (b : ℕ) (xs : List ℕ) (p : ℕ) → placeOf (shift b xs) (b + p) ≡ placeOf xs p
+unfolding placeOf
+place-shift b xs p = rw (below-shift, has-shift)

@@ -1,0 +1,169 @@
+-- What the search finds: over any test, and over a test that falls.
+-- Assumes nothing.
+use mathlib.Core.Path.{_≡_, refl, sym, ap, _∙_, subst}
+use mathlib.Core.Bool.{Bool, true, false, cond}
+use mathlib.Core.Logic.{⊎-elim}
+use Prim.Native.Nat.{ℕ, zero, suc, _+_, _-_, _*_, _/_, _<_, _≤_}
+use native.Mathlib.Nat.{eq-or-lt-of-le}
+use native.Mathlib.Omega.{arith}
+use lib.Dec.{leb}
+use borrow.Author.Tests.{le-leb, lt-leb, lt-ltb, le-ltb, leb-true, leb-false}
+use Rattle.model.proofs.Tests.{either, order, never}
+use Rattle.search.specs.Search.{mid, bsearch, find, count, Falling, Cut, allowed, upTo}
+
+-- the three answers of the comparison: within key, within key + i, past both
+pub within : {v key : ℕ} (gaps : Bool) (i : ℕ) → v ≤ key → true ≡ leb v (allowed gaps key i)
+unfolding allowed
+within {v} {key} true i h = sym (le-leb v (key + i) (omega arith))
+within {v} {key} false i h = sym (le-leb v key h)
+
+pub gap-within : (v key i : ℕ) → key < v → leb (v - key) i ≡ leb v (allowed true key i)
+unfolding allowed
+gap-within v key i h =
+    ⊎-elim
+    (λ (e : leb v (key + i) ≡ true). le-leb (v - key) i (omega (arith, leb-true v (key + i) e)) ∙ sym e)
+    (λ (e : leb v (key + i) ≡ false). lt-leb (v - key) i (omega (arith, leb-false v (key + i) e)) ∙ sym e)
+    (either (leb v (key + i)))
+
+pub past : {v key : ℕ} (i : ℕ) → key < v → false ≡ leb v (allowed false key i)
+unfolding allowed
+past {v} {key} i h = sym (lt-leb v key h)
+
+-- a test `f i ≤ key` falls where f does not
+pub falls-level : (f : ℕ → ℕ) (key n : ℕ) → ((i j : ℕ) → i ≤ j → j < n → f i ≤ f j) → Falling (upTo false f key) n
+unfolding upTo allowed
+falls-level f key n m i j p q e = le-leb (f i) key (omega (arith, m i j p q, leb-true (f j) key e))
+
+-- a test `f i ≤ key + i` falls where f rises strictly
+pub falls-gaps : (f : ℕ → ℕ) (key n : ℕ) → ((i j : ℕ) → i < j → j < n → f i + (j - i) ≤ f j) → Falling (upTo true f key) n
+unfolding upTo allowed
+falls-gaps f key n m i j p q e =
+    ⊎-elim (λ r. rw r e) (λ l. le-leb (f i) (key + i) (omega (arith, m i j l q, leb-true (f j) (key + j) e))) (eq-or-lt-of-le p)
+
+module _ (t : ℕ → Bool) where
+  -- nothing left
+  done : (k lo hi : ℕ) → hi ≤ lo → bsearch t k lo hi ≡ lo
+  unfolding bsearch
+  done zero lo hi h = refl
+  done (suc k) lo hi h = rw (le-ltb lo hi h)
+
+  -- one turn
+  turn : (k lo hi : ℕ) → lo < hi → bsearch t (suc k) lo hi ≡ bsearch t k (cond (t (mid lo hi)) (mid lo hi + 1) lo) (cond (t (mid lo hi)) hi (mid lo hi))
+  unfolding bsearch
+  turn k lo hi h = rw (lt-ltb lo hi h)
+
+  up : (k lo hi : ℕ) → lo < hi → t (mid lo hi) ≡ true → bsearch t (suc k) lo hi ≡ bsearch t k (mid lo hi + 1) hi
+  up k lo hi h e = turn k lo hi h ∙ rw e
+
+  down : (k lo hi : ℕ) → lo < hi → t (mid lo hi) ≡ false → bsearch t (suc k) lo hi ≡ bsearch t k lo (mid lo hi)
+  down k lo hi h e = turn k lo hi h ∙ rw e
+
+  -- turns to spare change nothing
+  spare : (k j lo hi : ℕ) → hi ≤ lo + k → hi ≤ lo + j → bsearch t k lo hi ≡ bsearch t j lo hi
+  spare zero j lo hi p q = done zero lo hi (omega arith) ∙ sym (done j lo hi (omega arith))
+  spare (suc k) zero lo hi p q = done (suc k) lo hi (omega arith) ∙ sym (done zero lo hi (omega arith))
+  spare (suc k) (suc j) lo hi p q =
+      ⊎-elim
+      (λ l.
+      ⊎-elim
+      (λ e. up k lo hi l e ∙ spare k j (mid lo hi + 1) hi (omega arith) (omega arith) ∙ sym (up j lo hi l e))
+      (λ e. down k lo hi l e ∙ spare k j lo (mid lo hi) (omega arith) (omega arith) ∙ sym (down j lo hi l e))
+      (either (t (mid lo hi))))
+      (λ g. done (suc k) lo hi g ∙ sym (done (suc j) lo hi g))
+      (order lo hi)
+
+  -- ---- the turns of the code
+
+  pub find-done : (lo hi : ℕ) → hi ≤ lo → find t lo hi ≡ lo
+  unfolding find
+  find-done lo hi h = done (hi - lo) lo hi h
+
+  more : (lo hi : ℕ) → find t lo hi ≡ bsearch t (suc (hi - lo)) lo hi
+  unfolding find
+  more lo hi = spare (hi - lo) (suc (hi - lo)) lo hi (omega arith) (omega arith)
+
+  pub find-up : (lo hi : ℕ) → lo < hi → t (mid lo hi) ≡ true → find t lo hi ≡ find t (mid lo hi + 1) hi
+  unfolding find
+  find-up lo hi h e = more lo hi ∙ up (hi - lo) lo hi h e ∙ spare (hi - lo) (hi - (mid lo hi + 1)) (mid lo hi + 1) hi (omega arith) (omega arith)
+
+  pub find-down : (lo hi : ℕ) → lo < hi → t (mid lo hi) ≡ false → find t lo hi ≡ find t lo (mid lo hi)
+  unfolding find
+  find-down lo hi h e = more lo hi ∙ down (hi - lo) lo hi h e ∙ spare (hi - lo) (mid lo hi - lo) lo (mid lo hi) (omega arith) (omega arith)
+
+  -- whatever the test, the answer is within
+  bounded : (k lo hi : ℕ) → lo ≤ hi → bsearch t k lo hi ≤ hi
+  unfolding bsearch
+  bounded zero lo hi o = o
+  bounded (suc k) lo hi o =
+      ⊎-elim
+      (λ l.
+      ⊎-elim
+      (λ e. rw (up k lo hi l e) (bounded k (mid lo hi + 1) hi (omega arith)))
+      (λ e. rw (down k lo hi l e) (omega (arith, bounded k lo (mid lo hi) (omega arith))))
+      (either (t (mid lo hi))))
+      (λ g. rw (done (suc k) lo hi g) o)
+      (order lo hi)
+
+  pub find-within : (n : ℕ) → find t 0 n ≤ n
+  unfolding find
+  find-within n = bounded (n - 0) 0 n (omega arith)
+
+  -- ---- what it finds where the test falls
+
+  falls : (n : ℕ) → Falling t n → (i j : ℕ) → i ≤ j → j < n → t i ≡ false → t j ≡ false
+  falls n f i j p q e = ⊎-elim (λ h. never (f i j p q h) e) (λ h. h) (either (t j))
+
+  met : (n lo hi : ℕ) → hi ≤ lo → lo ≤ hi → hi ≤ n → ((i : ℕ) → i < lo → t i ≡ true) → ((i : ℕ) → hi ≤ i → i < n → t i ≡ false) → Cut t n lo
+  met n lo hi g o w b a = record { within = omega arith; below = b; from = λ i p q. a i (omega arith) q }
+
+  cut : (n : ℕ) → Falling t n → (k lo hi : ℕ) → hi ≤ lo + k → lo ≤ hi → hi ≤ n → ((i : ℕ) → i < lo → t i ≡ true) → ((i : ℕ) → hi ≤ i → i < n → t i ≡ false) → Cut t n (bsearch t k lo hi)
+  cut n f zero lo hi m o w b a = rw (done zero lo hi (omega arith)) (met n lo hi (omega arith) o w b a)
+  cut n f (suc k) lo hi m o w b a =
+      ⊎-elim
+      (λ l.
+      ⊎-elim
+      (λ e. rw (up k lo hi l e) (cut n f k (mid lo hi + 1) hi (omega arith) (omega arith) w (λ i p. f i (mid lo hi) (omega arith) (omega arith) e) a))
+      (λ e. rw (down k lo hi l e) (cut n f k lo (mid lo hi) (omega arith) (omega arith) (omega arith) b (λ i p q. falls n f (mid lo hi) i p q e)))
+      (either (t (mid lo hi))))
+      (λ g. rw (done (suc k) lo hi g) (met n lo hi g o w b a))
+      (order lo hi)
+
+  pub find-cut : (n : ℕ) → Falling t n → Cut t n (find t 0 n)
+  unfolding find
+  find-cut n f = cut n f (n - 0) 0 n (omega arith) (omega arith) (omega arith) (λ i p. absurd (omega arith)) (λ i p q. absurd (omega arith))
+
+  -- a cut is the count
+  pub cut-count : (n r : ℕ) → Cut t n r → count t n ≡ r
+  unfolding count
+  cut-count zero r c = omega (arith, c .within)
+  cut-count (suc n) r c =
+      ⊎-elim
+      (λ e.
+      let here : t n ≡ true = c .below n (omega arith) in
+      let rest : count t n ≡ n = cut-count n n (record { within = omega arith; below = λ i p. c .below i (omega arith); from = λ i p q. absurd (omega arith) }) in
+      rw (here, rest) (sym e))
+      (λ l.
+      let here : t n ≡ false = c .from n (omega arith) (omega arith) in
+      rw here (cut-count n r (record { within = omega arith; below = c .below; from = λ i p q. c .from i p (omega arith) })))
+      (eq-or-lt-of-le (c .within))
+
+  pub find-count : (n : ℕ) → Falling t n → find t 0 n ≡ count t n
+  find-count n f = sym (cut-count n (find t 0 n) (find-cut n f))
+
+  -- ---- the code's loop: lo and hi close in, and the answer stays
+  pub record Searching (n lo hi : ℕ) : Type 0 where
+    pub ordered : lo ≤ hi
+    pub inside : hi ≤ n
+    pub same : find t lo hi ≡ find t 0 n
+
+  pub searching-start : (n : ℕ) → Searching n 0 n
+  searching-start n = record { ordered = omega arith; inside = omega arith; same = refl }
+
+  pub searching-up : (n lo hi : ℕ) → Searching n lo hi → lo < hi → t (mid lo hi) ≡ true → Searching n (mid lo hi + 1) hi
+  searching-up n lo hi s l e = record { ordered = omega arith; inside = s .inside; same = sym (find-up lo hi l e) ∙ s .same }
+
+  pub searching-down : (n lo hi : ℕ) → Searching n lo hi → lo < hi → t (mid lo hi) ≡ false → Searching n lo (mid lo hi)
+  searching-down n lo hi s l e = record { ordered = omega arith; inside = omega (arith, s .inside); same = sym (find-down lo hi l e) ∙ s .same }
+
+  pub searching-end : (n lo hi : ℕ) → Searching n lo hi → hi ≤ lo → lo ≡ find t 0 n
+  searching-end n lo hi s g = sym (find-done lo hi g) ∙ s .same
