@@ -1,0 +1,4 @@
+pub mod Cuts
+pub mod Best
+pub mod Joins
+pub mod Offers

@@ -1,0 +1,1 @@
+// Seeds to segments by the plain rule.
