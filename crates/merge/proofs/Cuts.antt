@@ -32,6 +32,10 @@ pub in-cases : {x a : ℕ} {cs : List ℕ} → In (x ∷ cs) a → (x ≡ a) ⊎
 in-cases first = inl refl
 in-cases (later w) = inr w
 
+pub in-some : {a : ℕ} {cs : List ℕ} → In cs a → 1 ≤ length cs
+in-some first = omega arith
+in-some (later w) = omega arith
+
 pub meet-order : {a b l m r : ℕ} {cs : List ℕ} → Rising a b cs → Meet cs l m r → (a ≤ l) × (l < m) × (m < r) × (r < b)
 meet-order (more p q (more p′ q′ (more p″ q″ ri))) here = omega arith
 meet-order (more p q ri) (there w) = omega (arith, meet-order ri w)
