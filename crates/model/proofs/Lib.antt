@@ -5,3 +5,5 @@ pub mod Append
 pub mod Ranges
 pub mod Pieces
 pub mod Writing
+pub mod Complement
+pub mod Runs

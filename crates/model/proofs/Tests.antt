@@ -26,6 +26,9 @@ order a b = ⊎-elim (λ e. inl (ltb-true a b e)) (λ e. inr (ltb-false a b e)) 
 pub same-or-not : (a b : ℕ) → (a ≡ b) ⊎ (a ≡ b → ⊥)
 same-or-not a b = ⊎-elim (λ e. inl (eqb-true a b e)) (λ e. inr (eqb-false a b e)) (either (eqb a b))
 
+pub strictly : {a b : ℕ} → a ≤ b → (a ≡ b → ⊥) → a < b
+strictly g n = ⊎-elim (λ e. absurd (n e)) (λ l. l) (eq-or-lt-of-le g)
+
 pub last-or-before : {i n : ℕ} → i < suc n → (i ≡ n) ⊎ (i < n)
 last-or-before h = eq-or-lt-of-le (le-of-suc-le-suc h)
 

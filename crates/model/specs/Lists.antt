@@ -85,5 +85,5 @@ runsOf (x ∷ xs) = onto x (runsOf xs)
 
 -- runs that are not empty, start at a or after, do not touch, and end at b or before
 pub data Apart : ℕ → ℕ → List Run → Type 0 where
-  none : {a b : ℕ} → Apart a b []
-  more : {a b : ℕ} {r : Run} {rs : List Run} → a ≤ r .start → 1 ≤ r .size → r .start + r .size ≤ b → Apart (suc (r .start + r .size)) b rs → Apart a b (r ∷ rs)
+  stop : {a b : ℕ} → Apart a b []
+  next : {a b : ℕ} {r : Run} {rs : List Run} → a ≤ r .start → 1 ≤ r .size → r .start + r .size ≤ b → Apart (suc (r .start + r .size)) b rs → Apart a b (r ∷ rs)

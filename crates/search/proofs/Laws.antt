@@ -108,6 +108,30 @@ module _ (t : ℕ → Bool) where
   unfolding find
   find-within n = bounded (n - 0) 0 n (omega arith)
 
+  -- whatever the test, it passed just before the answer and failed at it: no order is asked of the table
+  edges : (k lo hi n : ℕ) → hi ≤ lo + k → lo ≤ hi → hi ≤ n → (0 < lo → t (lo - 1) ≡ true) → (hi < n → t hi ≡ false)
+      → (0 < bsearch t k lo hi → t (bsearch t k lo hi - 1) ≡ true) × (bsearch t k lo hi < n → t (bsearch t k lo hi) ≡ false)
+  edges zero lo hi n m o w b a =
+      let q : lo ≡ hi = omega arith in
+      rw (done zero lo hi (omega arith)) (b, λ l. rw q (a (rw q at l)))
+  edges (suc k) lo hi n m o w b a =
+      ⊎-elim
+      (λ l.
+      ⊎-elim
+      (λ e. rw (up k lo hi l e) (edges k (mid lo hi + 1) hi n (omega arith) (omega arith) w (λ z. let c : mid lo hi + 1 - 1 ≡ mid lo hi = omega arith in rw c e) a))
+      (λ e. rw (down k lo hi l e) (edges k lo (mid lo hi) n (omega arith) (omega arith) (omega arith) b (λ z. e)))
+      (either (t (mid lo hi))))
+      (λ g. let q : lo ≡ hi = omega arith in rw (done (suc k) lo hi g) (b, λ l. rw q (a (rw q at l))))
+      (order lo hi)
+
+  pub find-hit : (n : ℕ) → 0 < find t 0 n → t (find t 0 n - 1) ≡ true
+  unfolding find
+  find-hit n h = edges (n - 0) 0 n n (omega arith) (omega arith) (omega arith) (λ z. absurd (omega arith)) (λ z. absurd (omega arith)) .0 h
+
+  pub find-miss : (n : ℕ) → find t 0 n < n → t (find t 0 n) ≡ false
+  unfolding find
+  find-miss n h = edges (n - 0) 0 n n (omega arith) (omega arith) (omega arith) (λ z. absurd (omega arith)) (λ z. absurd (omega arith)) .1 h
+
   -- ---- what it finds where the test falls
 
   falls : (n : ℕ) → Falling t n → (i j : ℕ) → i ≤ j → j < n → t i ≡ false → t j ≡ false

@@ -1,0 +1,4 @@
+pub mod Depths
+pub mod Choices
+pub mod Least
+pub mod Joining

@@ -1,0 +1,3 @@
+pub mod Statistics
+pub mod Sizes
+pub mod Forms

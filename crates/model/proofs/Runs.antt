@@ -1,0 +1,110 @@
+-- Runs: the runs of a list spread to the list, and the runs of spread runs that stand apart are those runs.
+-- Assumes nothing.
+use mathlib.Core.Path.{_≡_, refl, sym, ap, ap₂, _∙_}
+use mathlib.Core.Bool.{Bool, true, false}
+use mathlib.Core.Logic.{_⊎_, ⊎-elim}
+use mathlib.Core.List.{List, [], _∷_, _++_, append-nil, append-assoc}
+use Prim.Native.Nat.{ℕ, zero, suc, _+_, _-_, _<_, _≤_}
+use native.Mathlib.Nat.{suc-add, add-suc, add-zero, le-trans}
+use native.Mathlib.Omega.{arith}
+use lib.Dec.{eqb}
+use lib.ListN.{length, getD}
+use borrow.Author.Tests.{eq-eqb, ne-eqb}
+use Rattle.model.specs.Tests.{pick, tabulate, flat}
+use Rattle.model.specs.Lists.{Rising, none, more, range, Run, run, spread, onto, runsOf, Apart, stop, next}
+use Rattle.model.proofs.Tests.{pick-true, pick-false, same-or-not, strictly}
+use Rattle.model.proofs.Rising.{rising-append, rising-wider}
+use Rattle.model.proofs.Ranges.{range-rising}
+
+-- ---- a position put in front
+
+onto-joins : (x : ℕ) (r : Run) (rs : List Run) → r .start ≡ suc x → onto x (r ∷ rs) ≡ run x (suc (r .size)) ∷ rs
+unfolding onto
+onto-joins x r rs e = pick-true _ _ (eq-eqb (r .start) (suc x) e)
+
+onto-new : (x : ℕ) (r : Run) (rs : List Run) → (r .start ≡ suc x → ⊥) → onto x (r ∷ rs) ≡ run x 1 ∷ r ∷ rs
+unfolding onto
+onto-new x r rs n = pick-false _ _ (ne-eqb (r .start) (suc x) n)
+
+spread-onto : (x : ℕ) (rs : List Run) → spread (onto x rs) ≡ x ∷ spread rs
+unfolding spread onto range
+spread-onto x [] = refl
+spread-onto x (r ∷ rs) =
+    ⊎-elim
+    (λ e. rw (onto-joins x r rs e, e))
+    (λ n. rw (onto-new x r rs n))
+    (same-or-not (r .start) (suc x))
+
+-- the runs of a list spread to the list
+pub spread-runsOf : (xs : List ℕ) → spread (runsOf xs) ≡ xs
+unfolding runsOf spread
+spread-runsOf [] = refl
+spread-runsOf (x ∷ xs) = spread-onto x (runsOf xs) ∙ ap (λ (l : List ℕ). x ∷ l) (spread-runsOf xs)
+
+-- ---- runs that stand apart
+
+-- a run of one position in front
+single : {a b : ℕ} (x : ℕ) {rs : List Run} → a ≤ x → x < b → Apart (suc (x + 1)) b rs → Apart a b (run x 1 ∷ rs)
+single {a} {b} x l h s = next {b = b} {r = run x 1} l (omega arith) (omega arith) s
+
+apart-onto : {a b x : ℕ} {rs : List Run} → a ≤ x → x < b → Apart (suc x) b rs → Apart a b (onto x rs)
+unfolding onto
+apart-onto {a} {b} {x} l h stop = single x l h stop
+apart-onto {a} {b} {x} l h (next {r = r} {rs = rs} p q e s) =
+    ⊎-elim
+    (λ (j : r .start ≡ suc x).
+    let f : x + suc (r .size) ≡ r .start + r .size = omega arith in
+    rw (onto-joins x r rs j) (next {b = b} {r = run x (suc (r .size))} {rs = rs} l (omega arith) (rw f e) (rw f s)))
+    (λ n.
+    let far : suc (x + 1) ≤ r .start = omega (arith, strictly p (λ j. n (sym j))) in
+    rw (onto-new x r rs n) (single x l h (next {r = r} far q e s)))
+    (same-or-not (r .start) (suc x))
+
+pub apart-runsOf : {a b : ℕ} {xs : List ℕ} → Rising a b xs → Apart a b (runsOf xs)
+unfolding runsOf
+apart-runsOf none = stop
+apart-runsOf (more l h r) = apart-onto l h (apart-runsOf r)
+
+pub spread-rising : {a b : ℕ} {rs : List Run} → Apart a b rs → Rising a b (spread rs)
+unfolding spread
+spread-rising stop = none
+spread-rising {a} {b} (next {r = r} l q e s) =
+    let m = r .start + r .size in
+    let under : a ≤ m = le-trans l (omega arith) in
+    rising-append under e (rising-wider l (omega arith) (range-rising (r .start) (r .size))) (rising-wider (omega arith) (omega arith) (spread-rising s))
+
+onto-alone : {b : ℕ} (x : ℕ) (rs : List Run) → Apart (suc (x + 1)) b rs → onto x rs ≡ run x 1 ∷ rs
+unfolding onto
+onto-alone x [] a = refl
+onto-alone x (r ∷ rs) (next p q e t) = onto-new x r rs (λ j. omega arith)
+
+-- a run in front of runs that stand apart from it
+front-run : (s n : ℕ) (ys : List ℕ) (b : ℕ) → Apart (suc (s + suc n)) b (runsOf ys) → runsOf (range s (suc n) ++ ys) ≡ run s (suc n) ∷ runsOf ys
+unfolding runsOf range
+front-run s zero ys b a = onto-alone s (runsOf ys) a
+front-run s (suc n) ys b a =
+    let f : s + suc (suc n) ≡ suc s + suc n = omega arith in
+    rw (front-run (suc s) n ys b (rw f at a)) (onto-joins s (run (suc s) (suc n)) (runsOf ys) refl)
+
+-- the runs of spread runs
+pub runsOf-spread : {a b : ℕ} {rs : List Run} → Apart a b rs → runsOf (spread rs) ≡ rs
+unfolding spread runsOf
+runsOf-spread stop = refl
+runsOf-spread {a} {b} (next {r = r} {rs = rs} l q e s) =
+    let ih = runsOf-spread s in
+    let k : r .size ≡ suc (r .size - 1) = omega arith in
+    let t : Apart (suc (r .start + suc (r .size - 1))) b (runsOf (spread rs)) = rw (← k, ih) s in
+    let f = front-run (r .start) (r .size - 1) (spread rs) b t in
+    ap (λ (n : ℕ). runsOf (range (r .start) n ++ spread rs)) k ∙ f ∙ ap₂ (λ (n : ℕ) (l : List Run). run (r .start) n ∷ l) (sym k) ih
+
+-- ---- tabulated runs, as a body has them
+
+pub spread-append : (rs ss : List Run) → spread (rs ++ ss) ≡ spread rs ++ spread ss
+unfolding spread
+spread-append [] ss = refl
+spread-append (r ∷ rs) ss = rw (spread-append rs ss) (sym (append-assoc (range (r .start) (r .size)) (spread rs) (spread ss)))
+
+pub spread-tabulate : (f : ℕ → Run) (n : ℕ) → spread (tabulate f n) ≡ flat (λ (i : ℕ). range (f i .start) (f i .size)) n
+unfolding tabulate flat spread
+spread-tabulate f zero = refl
+spread-tabulate f (suc n) = spread-append (tabulate f n) (f n ∷ []) ∙ rw (spread-tabulate f n, append-nil)
