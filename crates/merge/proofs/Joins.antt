@@ -123,12 +123,14 @@ module _ {b : ℕ} (c : ℕ → ℕ → ℕ) (ad : Adds c b) where
       let e : suc i + suc k ≡ i + suc (suc k) = omega arith in
       omega (arith, counted-two c i (suc i) (cutsFrom (suc (suc i)) k), counted-seeds (suc i) k (omega arith), ap (c (suc i)) e, ad i (suc i) (i + suc (suc k)) (omega arith) (omega arith) h)
 
+-- what the seeds hold together, the segments hold, after every join
+pub counted-all : (n : ℕ) (c : ℕ → ℕ → ℕ) → Adds c (suc n) → (adm : ℕ → ℕ → ℕ → Bool) (sav : ℕ → ℕ → ℕ → ℕ) → 0 < n → (k : ℕ) → counted c (afterJoins adm sav k (cutsFrom 0 n)) ≡ c 0 n
+counted-all zero c ad adm sav z k = absurd (omega arith)
+counted-all (suc n) c ad adm sav z k =
+    counted-kept c ad adm sav k (cutsFrom 0 (suc n)) (cuts-rising 0 (suc n) (suc (suc n)) (omega arith)) ∙ counted-seeds c ad 0 n (omega arith) ∙ ap (c 0) (zero-add (suc n))
+
 -- the rows counted over all segments are the rows given, after every join: `ends i` is the number of rows of the first i seeds
 pub rows-kept : (adm : ℕ → ℕ → ℕ → Bool) (sav : ℕ → ℕ → ℕ → ℕ) (ends : ℕ → ℕ) (n : ℕ) → ((l m : ℕ) → l < m → m ≤ n → ends l ≤ ends m) → 0 < n
     → (k : ℕ) → counted (λ l m. ends m - ends l) (afterJoins adm sav k (cutsFrom 0 n)) ≡ ends n - ends 0
-rows-kept adm sav ends zero up z k = absurd (omega arith)
-rows-kept adm sav ends (suc n) up z k =
-    let c : ℕ → ℕ → ℕ = λ l m. ends m - ends l in
-    let ad : Adds c (suc (suc n)) = λ l m r p q h. omega (arith, up l m p (omega arith), up m r q (omega arith)) in
-    counted-kept c ad adm sav k (cutsFrom 0 (suc n)) (cuts-rising 0 (suc n) (suc (suc n)) (omega arith))
-    ∙ counted-seeds c ad 0 n (omega arith) ∙ ap (λ (t : ℕ). ends t - ends 0) (zero-add (suc n))
+rows-kept adm sav ends n up z k =
+    counted-all n (λ l m. ends m - ends l) (λ l m r p q h. omega (arith, up l m p (omega arith), up m r q (omega arith))) adm sav z k

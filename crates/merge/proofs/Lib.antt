@@ -5,3 +5,4 @@ pub mod Offers
 pub mod Links
 pub mod Around
 pub mod Queue
+pub mod Segments

@@ -1,3 +1,4 @@
 pub mod Rule
 pub mod Links
 pub mod Keys
+pub mod Pairs
