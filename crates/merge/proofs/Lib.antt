@@ -6,3 +6,4 @@ pub mod Links
 pub mod Around
 pub mod Queue
 pub mod Segments
+pub mod Tables

@@ -10,6 +10,7 @@ use native.Mathlib.Omega.{arith}
 use Rattle.model.specs.Lists.{Rising}
 use Rattle.model.proofs.Tests.{same-or-not, never}
 use Rattle.merge.specs.Rule.{Choice, none, pair, without, best}
+use Rattle.merge.specs.Links.{Cuts}
 use Rattle.merge.specs.Keys.{code}
 use Rattle.merge.proofs.Cuts.{Meet, meet-order}
 use Rattle.merge.proofs.Best.{Best, Chosen, chosen}
@@ -18,12 +19,6 @@ use Rattle.merge.proofs.Links.{Linked, Joined, chain-next, next-meets, 
 
 pub along3 : (P : ℕ → ℕ → ℕ → Type 0) {a b c x y z : ℕ} → a ≡ x → b ≡ y → c ≡ z → P x y z → P a b c
 along3 P p q r h = rw (p, q, r) h
-
--- three cuts of n that rise, as an offer has them
-pub record Cuts (n l m r : ℕ) : Type 0 where
-  pub lm : l < m
-  pub mr : m < r
-  pub rn : r ≤ n
 
 -- the greater key saves more, or as much from further left
 key-order : (n : ℕ) {l m r a b c : ℕ} (s t : ℕ) → n < 65536 → Cuts n l m r → Cuts n a b c → code t a b c ≤ code s l m r → (t ≤ s) × (s ≤ t → l ≤ a)

@@ -7,9 +7,9 @@ use Prim.Native.Nat.{ℕ, zero, suc, _+_, _*_, _-_, _<_, _≤_}
 use native.Mathlib.Nat.{le-of-eq, add-zero, add-suc}
 use native.Mathlib.Omega.{arith}
 use lib.Dec.{eqb, leb}
-use borrow.Author.Tests.{leb-true, leb-false, le-leb}
+use borrow.Author.Tests.{leb-true, leb-false, le-leb, lt-leb}
 use Rattle.model.specs.Tests.{both, pick}
-use Rattle.model.proofs.Tests.{both-left, both-right, both-true, either, never}
+use Rattle.model.proofs.Tests.{both-left, both-right, both-true, both-first, either, never}
 use Rattle.cost.specs.declared.Stats.{Stats}
 use Rattle.cost.specs.Statistics.{Sound, Neighbours, joined, spanOf}
 use Rattle.cost.specs.Forms.{localForm, itemsForm, localOffers}
@@ -122,3 +122,16 @@ saves-small a b k e =
     let in-a = k .left .ordered in
     let in-b = k .right .ordered in
     omega (arith, local-short a (omega (arith, k .apart)), local-short b (omega (arith, k .apart)))
+
+-- ---- what the code computes
+
+pub admits-long : (a b : Stats) → 65535 < spanOf (joined a b) → admits a b ≡ false
+unfolding admits
+admits-long a b h = both-first _ _ (lt-leb _ _ h)
+
+pub admits-by : (a b : Stats) → spanOf (joined a b) ≤ 65535 → leb (payload (joined a b)) (16 + payload a + payload b) ≡ admits a b
+unfolding admits both
+admits-by a b h = rw (le-leb _ _ h)
+
+pub join-sound : (a b j : Stats) → j ≡ joined a b → Neighbours a b → Sound j
+join-sound a b j e k = rw e (joined-sound a b k)

@@ -2,3 +2,5 @@ pub mod Rule
 pub mod Links
 pub mod Keys
 pub mod Pairs
+pub mod Tables
+pub mod Contracts

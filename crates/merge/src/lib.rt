@@ -1,1 +1,134 @@
-// Seeds to segments by the plain rule.
+// Seeds to segments by the plain rule. The workspace has a record of eight words for each cut from 0 to n, and the queue of
+// offers behind them. A record holds the cut after it (0: no segment starts here), the cut before it, and first, last, count
+// and runs of the segment that starts here; two words are to spare.
+ghost use mathlib.Core.Path.{_≡_};
+ghost use mathlib.Core.Bool.{true};
+ghost use Prim.Native.Nat.{ℕ, _+_, _*_, _-_, _<_, _≤_};
+ghost use lib.ListN.{length};
+ghost use Rattle.cost.specs.Statistics.{Sound, Neighbours, joined};
+ghost use Rattle.queue.specs.Keys.{Heap};
+ghost use Rattle.merge.specs.Keys.{code, pairOf};
+ghost use Rattle.merge.specs.Links.{Cuts};
+ghost use Rattle.merge.specs.Pairs.{payload, admits, saves};
+ghost use Rattle.merge.specs.Tables.{base, records, waiting, field, next, prev, statAt, isLive, put, putStat, linked};
+ghost use Rattle.merge.specs.Contracts.{Added, pairIs, pairKey, leftIs, leftKey, rightIs, rightKey, Left, Right, Ready, Joining};
+
+// A pair of neighbouring segments: where the left one starts, where they meet, where the right one ends.
+pub struct Pair {
+    pub left: usize,
+    pub middle: usize,
+    pub right: usize,
+}
+
+// An offer as one number: the greater one saves more, or as much from further left.
+fn encode(saving: u64, left: usize, middle: usize, right: usize) -> u64
+    requires { ⌜ (saving < 32768) × (left < 65536) × (middle < 65536) × (right < 65536) ⌝ }
+    ensures { λ r. ⌜ r ≡ code saving left middle right ⌝ }
+{
+    saving * 281474976710656
+        + (65535 - left as u64) * 4294967296
+        + middle as u64 * 65536
+        + right as u64
+}
+
+fn decode(k: u64) -> Pair
+    ensures { λ r. ⌜ r ≡ pairOf k ⌝ }
+{
+    Pair {
+        left: (65535 - k / 4294967296 % 65536) as usize,
+        middle: (k / 65536 % 65536) as usize,
+        right: (k % 65536) as usize,
+    }
+}
+
+// The bytes of a segment.
+fn payload(s: cost::Stats) -> u64
+    requires { ⌜ Sound s ⌝ }
+    ensures { λ r. ⌜ (r ≡ payload s) × (r ≤ 8589934592) ⌝ }
+{
+    cost::local_form(s).bytes
+}
+
+// Whether two neighbouring segments may be joined: a saving of nothing is enough.
+fn admitted(a: cost::Stats, b: cost::Stats) -> bool
+    requires { ⌜ Neighbours a b ⌝ }
+    ensures { λ r. ⌜ r ≡ admits a b ⌝ }
+{
+    let whole = cost::join(a, b);
+    if 65535 <= whole.last - whole.first {
+        return false;
+    }
+    payload(whole) <= 16 + payload(a) + payload(b)
+}
+
+// What joining them saves: a directory entry and two payloads for one.
+fn saving(a: cost::Stats, b: cost::Stats) -> u64
+    requires { ⌜ Neighbours a b ⌝ }
+    requires { ⌜ admits a b ≡ true ⌝ }
+    ensures { λ r. ⌜ (r ≡ saves a b) × (r < 32768) ⌝ }
+{
+    16 + payload(a) + payload(b) - payload(cost::join(a, b))
+}
+
+fn wide(x: u32) -> usize
+    ensures { λ r. ⌜ (r ≡ x) × (r < 4294967296) ⌝ }
+{
+    x as usize
+}
+
+// Word k of the record of the cut x.
+fn cell(w: &[u32], x: usize, k: usize) -> usize
+    requires { ⌜ x * 8 + k < length (now w) ⌝ }
+    ensures { λ r. ⌜ (r ≡ field (now (w .entry)) x k) × (r < 4294967296) ⌝ }
+{
+    wide(w[x * 8 + k])
+}
+
+fn put(w: &mut [u32], x: usize, k: usize, v: u32)
+    requires { ⌜ x * 8 + k < length (now w) ⌝ }
+    ensures { λ _. ⌜ now (w .exit) ≡ put (now (w .entry)) x k v ⌝ }
+{
+    w[x * 8 + k] = v;
+}
+
+// The cut after x, where a segment starts at x.
+pub fn next(w: &[u32], x: usize) -> usize
+    requires { ⌜ x * 8 + 8 ≤ length (now w) ⌝ }
+    ensures { λ r. ⌜ (r ≡ next (now (w .entry)) x) × (r < 4294967296) ⌝ }
+{
+    cell(w, x, 0)
+}
+
+// The statistics of the segment that starts at x.
+pub fn segment(w: &[u32], x: usize) -> cost::Stats
+    requires { ⌜ x * 8 + 8 ≤ length (now w) ⌝ }
+    ensures { λ r. ⌜ r ≡ statAt (now (w .entry)) x ⌝ }
+{
+    cost::Stats {
+        first: w[x * 8 + 2],
+        last: w[x * 8 + 3],
+        count: w[x * 8 + 4],
+        runs: w[x * 8 + 5],
+    }
+}
+
+pub fn put_segment(w: &mut [u32], x: usize, s: cost::Stats)
+    requires { ⌜ x * 8 + 8 ≤ length (now w) ⌝ }
+    ensures { λ _. ⌜ now (w .exit) ≡ putStat (now (w .entry)) x s ⌝ }
+{
+    put(w, x, 2, s.first);
+    put(w, x, 3, s.last);
+    put(w, x, 4, s.count);
+    put(w, x, 5, s.runs);
+}
+
+// Takes the cut m out: one segment from l to r, with the statistics s.
+fn link(w: &mut [u32], l: usize, m: usize, r: usize, s: cost::Stats)
+    requires { ⌜ (l < m) × (m < r) × (r < 65536) × (r * 8 + 8 ≤ length (now w)) ⌝ }
+    ensures { λ _. ⌜ now (w .exit) ≡ linked l m r s (now (w .entry)) ⌝ }
+{
+    put(w, l, 0, r as u32);
+    put(w, m, 0, 0);
+    put(w, r, 1, l as u32);
+    put_segment(w, l, s);
+}
