@@ -7,3 +7,7 @@ pub mod Around
 pub mod Queue
 pub mod Segments
 pub mod Tables
+pub mod Adds
+pub mod Steps
+pub mod State
+pub mod Turn

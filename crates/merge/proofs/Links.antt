@@ -47,10 +47,14 @@ pub next-meets : {n : ℕ} {nx : ℕ → ℕ} {cs : List ℕ} {a b c : ℕ} → 
 next-meets {a = a} k p q zb zc = chain-meets (k .chain) (k .only a (omega arith)) p q zb zc
 
 -- a cut above 0 has a cut before it
-pub cut-before : {nx : ℕ → ℕ} {o a : ℕ} {cs : List ℕ} → Chain nx (o ∷ cs) → In (o ∷ cs) a → (o ≡ a → ⊥) → (p : ℕ) × (nx p ≡ a)
+cut-before : {nx : ℕ → ℕ} {o a : ℕ} {cs : List ℕ} → Chain nx (o ∷ cs) → In (o ∷ cs) a → (o ≡ a → ⊥) → (p : ℕ) × (nx p ≡ a)
 cut-before ch first ne = absurd (ne refl)
 cut-before (end e) (later w) ne = absurd (omega (arith, in-some w))
 cut-before {a = a} (link {x = x} {y = y} e ch) (later w) ne = ⊎-elim (λ q. (x, e ∙ q)) (λ ny. cut-before ch w ny) (same-or-not y a)
+
+-- and a table of the cuts before says which
+pub linked-before : {n : ℕ} {nx : ℕ → ℕ} {cs : List ℕ} (pv : ℕ → ℕ) → Linked n nx (0 ∷ cs) → ((a b : ℕ) → nx a ≡ b → 0 < b → pv b ≡ a) → (l : ℕ) → In (0 ∷ cs) l → 0 < l → nx (pv l) ≡ l
+linked-before pv k back l w z = let p = cut-before (k .chain) w (λ e. omega arith) in rw (back (p .0) l (p .1) z) (p .1)
 
 -- ---- a join
 

@@ -1,13 +1,15 @@
 -- The records of cuts in the workspace: what is read after a write, and what a write leaves alone.
 -- Assumes nothing.
 use mathlib.Core.Path.{_≡_, refl, sym, ap, _∙_}
+use mathlib.Core.Bool.{Bool}
 use mathlib.Core.List.{List}
 use Prim.Native.Nat.{ℕ, _+_, _*_, _<_, _≤_}
 use native.Mathlib.Omega.{arith}
 use lib.ListN.{length, getD, set, take, drop, length-set, length-take, List·getD-eq-default}
 use lib.Seq.{getD-set-same, getD-set-other, getD-take, take-set-lt, drop-set-lt, length-take-le}
 use Rattle.cost.specs.declared.Stats.{Stats}
-use Rattle.merge.specs.Tables.{base, records, waiting, field, next, prev, statAt, put, putStat, linked}
+use Rattle.merge.specs.Links.{Cuts}
+use Rattle.merge.specs.Tables.{base, records, waiting, field, next, prev, statAt, isLive, put, putStat, linked}
 
 -- ---- one word
 
@@ -40,6 +42,17 @@ records-stat n w x h = λ i. record {
   count = records-field n w x 4 h (omega arith) i;
   runs = records-field n w x 5 h (omega arith) i;
 }
+
+-- the statistics of a pair as they are read
+pub read-pair : (n : ℕ) (w : List ℕ) (l m r : ℕ) (a b : Stats) → Cuts n l m r → a ≡ statAt w l → b ≡ statAt w m → (a ≡ statAt (records n w) l) × (b ≡ statAt (records n w) m)
+read-pair n w l m r a b c ea eb = (ea ∙ records-stat n w l (omega arith), eb ∙ records-stat n w m (omega arith))
+
+-- what the test of an offer answered is so of the records
+pub read-live : (n : ℕ) (w : List ℕ) (l m r : ℕ) (b u : Bool) → Cuts n l m r → b ≡ isLive w l m r → b ≡ u → isLive (records n w) l m r ≡ u
+unfolding isLive
+read-live n w l m r b u c e f =
+    let same : isLive w l m r ≡ isLive (records n w) l m r = rw (records-field n w l 0 (omega arith) (omega arith), records-field n w m 0 (omega arith) (omega arith)) in
+    sym same ∙ sym e ∙ f
 
 pub records-far : (n : ℕ) (w : List ℕ) (x k : ℕ) → n < x → field (records n w) x k ≡ 0
 unfolding field
@@ -155,6 +168,10 @@ module _ (l m r : ℕ) (s : Stats) (t : List ℕ) (lm : l < m) (mr : m < r) (lon
   linked-field : (x j : ℕ) → j < 2 → field (linked l m r s t) x j ≡ field (put ends r 1 l) x j
   unfolding linked
   linked-field x j h = stat-link (put ends r 1 l) l s x j h
+
+  pub linked-length : length (linked l m r s t) ≡ length t
+  unfolding linked
+  linked-length = simp (stat-length, put-length)
 
   pub linked-left : next (linked l m r s t) l ≡ r
   linked-left =

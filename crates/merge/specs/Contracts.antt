@@ -3,17 +3,17 @@
 use mathlib.Core.Path.{_≡_}
 use mathlib.Core.Bool.{Bool, true, false}
 use mathlib.Core.List.{List, _∷_}
-use Prim.Native.Nat.{ℕ, _+_, _<_, _≤_}
+use Prim.Native.Nat.{ℕ, _+_, _-_, _<_, _≤_}
 use lib.Dec.{ltb}
 use Rattle.model.specs.Tests.{both}
 use Rattle.cost.specs.declared.Stats.{Stats}
 use Rattle.cost.specs.Statistics.{Neighbours, joined}
 use Rattle.queue.specs.Keys.{key, occ, one, Heap}
-use Rattle.merge.specs.Rule.{oneIf, merged, cutsFrom}
+use Rattle.merge.specs.Rule.{oneIf, pairs, merged, cutsFrom}
 use Rattle.merge.specs.Links.{Chain, Cuts}
 use Rattle.merge.specs.Keys.{code}
 use Rattle.merge.specs.Pairs.{admits, saves, segmentOf, admitted, saving}
-use Rattle.merge.specs.Tables.{records, waiting, next, prev, statAt, linked}
+use Rattle.merge.specs.Tables.{records, waiting, next, prev, statAt, isLive, linked}
 
 -- how often the key x is in the queue of q keys
 abbrev pub many : ℕ → List ℕ → ℕ → ℕ → ℕ
@@ -78,6 +78,26 @@ pub record Joining (n q l m r : ℕ) (w w′ : List ℕ) (c : ℕ) : Type 0 wher
   pub queue : waiting n linking ≡ waiting n w
   pub left : Added n q (leftIs (records n linking) l) (leftKey (records n linking) l r) linking halfway offered
   pub right : Added n offered (rightIs (records n halfway) l r) (rightKey (records n halfway) l r) halfway w′ c
+
+-- an offer is taken: if it is stale, nothing happens
+pub record Taken (n q l m r : ℕ) (w w′ : List ℕ) (c : ℕ) : Type 0 where
+  pub live : isLive (records n w) l m r ≡ true → Joining n q l m r w w′ c
+  pub stale : isLive (records n w) l m r ≡ false → (w′ ≡ w) × (c ≡ q)
+
+-- each seed is a segment; t₀ are the records before
+pub record Started (n : ℕ) (t₀ t : List ℕ) : Type 0 where
+  pub ends : (x : ℕ) → x < n → next t x ≡ x + 1
+  pub end : next t n ≡ 0
+  pub backs : (x : ℕ) → x < n → prev t (x + 1) ≡ x
+  pub stats : (x : ℕ) → statAt t x ≡ statAt t₀ x
+
+-- of the first i neighbouring pairs of seeds, those that are admitted wait in the queue, and nothing else
+pub record Offering (f : ℕ → Stats) (n i : ℕ) (w : List ℕ) (q : ℕ) : Type 0 where
+  pub most : q ≤ i
+  pub heap : Heap (waiting n w) q
+  pub count : q + pairs (admitted f) (cutsFrom i (n - i)) ≡ pairs (admitted f) (cutsFrom 0 n)
+  pub all : (x : ℕ) → x < i → admitted f x (x + 1) (x + 2) ≡ true → 0 < many n w q (code (saving f x (x + 1) (x + 2)) x (x + 1) (x + 2))
+  pub only : (k : ℕ) → 0 < many n w q k → (x : ℕ) × (x + 2 ≤ n) × (admitted f x (x + 1) (x + 2) ≡ true) × (k ≡ code (saving f x (x + 1) (x + 2)) x (x + 1) (x + 2))
 
 -- the segments of n seeds with the statistics f after merging: the table leads through the plain rule's cuts from 0 on,
 -- and each segment has its statistics

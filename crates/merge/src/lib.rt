@@ -11,7 +11,7 @@ ghost use Rattle.merge.specs.Keys.{code, pairOf};
 ghost use Rattle.merge.specs.Links.{Cuts};
 ghost use Rattle.merge.specs.Pairs.{payload, admits, saves};
 ghost use Rattle.merge.specs.Tables.{base, records, waiting, field, next, prev, statAt, isLive, put, putStat, linked};
-ghost use Rattle.merge.specs.Contracts.{Added, pairIs, pairKey, leftIs, leftKey, rightIs, rightKey, Left, Right, Ready, Joining};
+ghost use Rattle.merge.specs.Contracts.{Added, pairIs, pairKey, leftIs, leftKey, rightIs, rightKey, Left, Right, Ready, Joining, Taken};
 
 // A pair of neighbouring segments: where the left one starts, where they meet, where the right one ends.
 pub struct Pair {
@@ -131,4 +131,89 @@ fn link(w: &mut [u32], l: usize, m: usize, r: usize, s: cost::Stats)
     put(w, m, 0, 0);
     put(w, r, 1, l as u32);
     put_segment(w, l, s);
+}
+
+// Puts the pair of segments that meet at m into the queue of q keys, if it is admitted; answers how many keys wait then.
+fn offer(w: &mut [u32], n: usize, q: usize, l: usize, m: usize, r: usize) -> usize
+    requires { ⌜ Cuts n l m r × (n < 65536) ⌝ }
+    requires { ⌜ base n + (q * 2 + 1) < length (now w) ⌝ }
+    requires { ⌜ Heap (waiting n (now w)) q ⌝ }
+    requires { ⌜ Neighbours (statAt (records n (now w)) l) (statAt (records n (now w)) m) ⌝ }
+    ensures { λ c. ⌜ Added n q (pairIs (records n (now (w .entry))) l m) (pairKey (records n (now (w .entry))) l m r) (now (w .entry)) (now (w .exit)) c ⌝ }
+{
+    let a = segment(w, l);
+    let b = segment(w, m);
+    if admitted(a, b) {
+        let k = encode(saving(a, b), l, m, r);
+        queue::push_at(w, n * 8 + 8, q, k);
+        return q + 1;
+    }
+    q
+}
+
+// The same for the segment from l to r and the one before it, if there is one.
+fn offer_left(w: &mut [u32], n: usize, q: usize, l: usize, r: usize) -> usize
+    requires { ⌜ (l < r) × (r ≤ n) × (n < 65536) ⌝ }
+    requires { ⌜ base n + (q * 2 + 1) < length (now w) ⌝ }
+    requires { ⌜ Heap (waiting n (now w)) q ⌝ }
+    requires { ⌜ (0 < l → Left (records n (now w)) l (statAt (records n (now w)) l)) ⌝ }
+    ensures { λ c. ⌜ Added n q (leftIs (records n (now (w .entry))) l) (leftKey (records n (now (w .entry))) l r) (now (w .entry)) (now (w .exit)) c ⌝ }
+{
+    if 0 < l {
+        let p = cell(w, l, 1);
+        return offer(w, n, q, p, l, r);
+    }
+    q
+}
+
+// The same for it and the one after it.
+fn offer_right(w: &mut [u32], n: usize, q: usize, l: usize, r: usize) -> usize
+    requires { ⌜ (l < r) × (r ≤ n) × (n < 65536) ⌝ }
+    requires { ⌜ base n + (q * 2 + 1) < length (now w) ⌝ }
+    requires { ⌜ Heap (waiting n (now w)) q ⌝ }
+    requires { ⌜ (0 < next (records n (now w)) r → Right n (records n (now w)) r (statAt (records n (now w)) l)) ⌝ }
+    ensures { λ c. ⌜ Added n q (rightIs (records n (now (w .entry))) l r) (rightKey (records n (now (w .entry))) l r) (now (w .entry)) (now (w .exit)) c ⌝ }
+{
+    let z = cell(w, r, 0);
+    if 0 < z {
+        return offer(w, n, q, l, r, z);
+    }
+    q
+}
+
+// Joins the segments that meet at m, and offers the pairs that contain the joined segment.
+fn join_pair(w: &mut [u32], n: usize, q: usize, l: usize, m: usize, r: usize) -> usize
+    requires { ⌜ Ready n (records n (now w)) l m r × (n < 65536) ⌝ }
+    requires { ⌜ base n + (q * 2 + 3) < length (now w) ⌝ }
+    requires { ⌜ Heap (waiting n (now w)) q ⌝ }
+    ensures { λ c. ⌜ Joining n q l m r (now (w .entry)) (now (w .exit)) c ⌝ }
+{
+    let s = cost::join(segment(w, l), segment(w, m));
+    link(w, l, m, r, s);
+    let c = offer_left(w, n, q, l, r);
+    offer_right(w, n, c, l, r)
+}
+
+// Whether the segments from l to m and from m to r are still there.
+fn live(w: &[u32], l: usize, m: usize, r: usize) -> bool
+    requires { ⌜ (l * 8 + 8 ≤ length (now w)) × (m * 8 + 8 ≤ length (now w)) ⌝ }
+    ensures { λ b. ⌜ b ≡ isLive (now (w .entry)) l m r ⌝ }
+{
+    let a = cell(w, l, 0);
+    let b = cell(w, m, 0);
+    (a == m) & (b == r)
+}
+
+// Takes an offer: joins its pair, if it is not stale; answers how many keys wait then.
+fn take_offer(w: &mut [u32], n: usize, q: usize, o: Pair) -> usize
+    requires { ⌜ Cuts n (o .left) (o .middle) (o .right) × (n < 65536) ⌝ }
+    requires { ⌜ base n + (q * 2 + 3) < length (now w) ⌝ }
+    requires { ⌜ Heap (waiting n (now w)) q ⌝ }
+    requires { ⌜ (isLive (records n (now w)) (o .left) (o .middle) (o .right) ≡ true → Ready n (records n (now w)) (o .left) (o .middle) (o .right)) ⌝ }
+    ensures { λ c. ⌜ Taken n q (o .left) (o .middle) (o .right) (now (w .entry)) (now (w .exit)) c ⌝ }
+{
+    if live(w, o.left, o.middle, o.right) {
+        return join_pair(w, n, q, o.left, o.middle, o.right);
+    }
+    q
 }
