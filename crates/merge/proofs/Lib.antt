@@ -11,3 +11,5 @@ pub mod Adds
 pub mod Steps
 pub mod State
 pub mod Turn
+pub mod Begin
+pub mod Loop

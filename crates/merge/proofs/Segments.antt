@@ -5,6 +5,7 @@ use mathlib.Core.Logic.{⊎-elim}
 use mathlib.Core.Bool.{Bool, true, false}
 use Prim.Native.Nat.{ℕ, zero, suc, _+_, _*_, _-_, _<_, _≤_}
 use native.Mathlib.Nat.{le-of-eq, add-zero, add-suc}
+use native.Mathlib.Numerals.{add-one}
 use native.Mathlib.Omega.{arith}
 use lib.Dec.{eqb, leb}
 use borrow.Author.Tests.{leb-true, leb-false, le-leb, lt-leb}
@@ -18,6 +19,9 @@ use Rattle.cost.proofs.Joining.{joined-sound}
 use Rattle.merge.specs.Rule.{counted, afterJoins, cutsFrom}
 use Rattle.merge.specs.Pairs.{payload, admits, saves, totalFrom, segmentOf, Seeds}
 use Rattle.merge.proofs.Joins.{counted-all}
+
+pub seeds-neighbours : {f : ℕ → Stats} {n : ℕ} (i : ℕ) → Seeds f n → i + 1 < n → Neighbours (f i) (f (i + 1))
+seeds-neighbours i s h = rw (add-one i) (record { left = s .sound i (omega arith); right = s .sound (suc i) (omega arith); apart = s .apart i (omega arith) })
 
 -- ---- joining
 

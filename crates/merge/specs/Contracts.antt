@@ -9,7 +9,7 @@ use Rattle.model.specs.Tests.{both}
 use Rattle.cost.specs.declared.Stats.{Stats}
 use Rattle.cost.specs.Statistics.{Neighbours, joined}
 use Rattle.queue.specs.Keys.{key, occ, one, Heap}
-use Rattle.merge.specs.Rule.{oneIf, pairs, merged, cutsFrom}
+use Rattle.merge.specs.Rule.{oneIf, pairs, merged, offers, cutsFrom}
 use Rattle.merge.specs.Links.{Chain, Cuts}
 use Rattle.merge.specs.Keys.{code}
 use Rattle.merge.specs.Pairs.{admits, saves, segmentOf, admitted, saving}
@@ -99,10 +99,18 @@ pub record Offering (f : ℕ → Stats) (n i : ℕ) (w : List ℕ) (q : ℕ) : T
   pub all : (x : ℕ) → x < i → admitted f x (x + 1) (x + 2) ≡ true → 0 < many n w q (code (saving f x (x + 1) (x + 2)) x (x + 1) (x + 2))
   pub only : (k : ℕ) → 0 < many n w q k → (x : ℕ) × (x + 2 ≤ n) × (admitted f x (x + 1) (x + 2) ≡ true) × (k ≡ code (saving f x (x + 1) (x + 2)) x (x + 1) (x + 2))
 
--- the segments of n seeds with the statistics f after merging: the table leads through the plain rule's cuts from 0 on,
--- and each segment has its statistics
+-- ---- the whole: n seeds with the statistics f
+
+-- the cuts of the segments that the plain rule ends with, and its offers
+unfoldable pub cutsOf : (ℕ → Stats) → ℕ → List ℕ
+cutsOf f n = merged (admitted f) (saving f) (cutsFrom 0 n)
+
+unfoldable pub offersOf : (ℕ → Stats) → ℕ → ℕ
+offersOf f n = offers (admitted f) (saving f) (cutsFrom 0 n)
+
+-- the records lead from 0 through these cuts, and each segment has its statistics
 pub record Merged (f : ℕ → Stats) (n : ℕ) (t : List ℕ) : Type 0 where
   pub rest : List ℕ
-  pub first : merged (admitted f) (saving f) (cutsFrom 0 n) ≡ 0 ∷ rest
-  pub cuts : Chain (next t) (merged (admitted f) (saving f) (cutsFrom 0 n))
+  pub first : cutsOf f n ≡ 0 ∷ rest
+  pub cuts : Chain (next t) (cutsOf f n)
   pub stats : (l m : ℕ) → next t l ≡ m → 0 < m → statAt t l ≡ segmentOf f l m

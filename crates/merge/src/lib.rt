@@ -4,14 +4,15 @@
 ghost use mathlib.Core.Path.{_≡_};
 ghost use mathlib.Core.Bool.{true};
 ghost use Prim.Native.Nat.{ℕ, _+_, _*_, _-_, _<_, _≤_};
-ghost use lib.ListN.{length};
+ghost use lib.ListN.{length, replicate};
+ghost use Rattle.model.specs.Answers.{over};
 ghost use Rattle.cost.specs.Statistics.{Sound, Neighbours, joined};
 ghost use Rattle.queue.specs.Keys.{Heap};
 ghost use Rattle.merge.specs.Keys.{code, pairOf};
 ghost use Rattle.merge.specs.Links.{Cuts};
-ghost use Rattle.merge.specs.Pairs.{payload, admits, saves};
+ghost use Rattle.merge.specs.Pairs.{payload, admits, saves, Seeds};
 ghost use Rattle.merge.specs.Tables.{base, records, waiting, field, next, prev, statAt, isLive, put, putStat, linked};
-ghost use Rattle.merge.specs.Contracts.{Added, pairIs, pairKey, leftIs, leftKey, rightIs, rightKey, Left, Right, Ready, Joining, Taken};
+ghost use Rattle.merge.specs.Contracts.{Added, pairIs, pairKey, leftIs, leftKey, rightIs, rightKey, Left, Right, Ready, Joining, Taken, Started, Offering, Merged, offersOf};
 
 // A pair of neighbouring segments: where the left one starts, where they meet, where the right one ends.
 pub struct Pair {
@@ -216,4 +217,74 @@ fn take_offer(w: &mut [u32], n: usize, q: usize, o: Pair) -> usize
         return join_pair(w, n, q, o.left, o.middle, o.right);
     }
     q
+}
+
+// Makes each seed a segment of its own. The statistics are those that stand there.
+fn start(w: &mut [u32], n: usize)
+    requires { ⌜ (n < 65536) × (base n ≤ length (now w)) ⌝ }
+    ensures { λ _. ⌜ Started n (records n (now (w .entry))) (records n (now (w .exit))) ⌝ }
+{
+    let mut i = 0;
+    while i < n {
+        put(w, i, 0, (i + 1) as u32);
+        put(w, i + 1, 1, i as u32);
+        i += 1;
+    }
+    put(w, n, 0, 0);
+}
+
+// Offers each neighbouring pair of seeds; answers how many keys wait then.
+fn offer_all(w: &mut [u32], n: usize) -> usize
+    requires { ⌜ (0 < n) × (n < 65536) × (base n + 6 * n ≤ length (now w)) ⌝ }
+    requires { ⌜ Seeds (statAt (records n (now w))) n ⌝ }
+    ensures { λ q. ⌜ Offering (statAt (records n (now (w .entry)))) n (n - 1) (now (w .exit)) q ⌝ }
+    ensures { λ _. ⌜ records n (now (w .exit)) ≡ records n (now (w .entry)) ⌝ }
+{
+    let mut i = 0;
+    let mut q = 0;
+    while i + 1 < n {
+        q = offer(w, n, q, i, i + 1, i + 2);
+        i += 1;
+    }
+    q
+}
+
+// Joins n seeds, whose statistics stand in their records, into segments as the plain rule does, and counts the offers that
+// it takes from the queue, stale ones too. The records then lead from 0 through the segments.
+pub fn join_seeds(w: &mut [u32], n: usize) -> usize
+    requires { ⌜ (0 < n) × (n < 65536) × (base n + 6 * n ≤ length (now w)) ⌝ }
+    requires { ⌜ Seeds (statAt (records n (now w))) n ⌝ }
+    ensures { λ r. ⌜ r ≡ offersOf (statAt (records n (now (w .entry)))) n ⌝ }
+    ensures { λ r. ⌜ r ≤ 3 * (n - 1) ⌝ }
+    ensures { λ _. ⌜ Merged (statAt (records n (now (w .entry)))) n (records n (now (w .exit))) ⌝ }
+{
+    start(w, n);
+    let mut q = offer_all(w, n);
+    let mut taken = 0;
+    while 0 < q {
+        let k = queue::pop_at(w, n * 8 + 8, q);
+        q = take_offer(w, n, q - 1, decode(k));
+        taken += 1;
+    }
+    taken
+}
+
+// Zeroes the words.
+fn wipe(a: &mut [u32])
+    ensures { λ _. ⌜ now (a .exit) ≡ replicate (length (now (a .entry))) 0 ⌝ }
+{
+    let mut i = 0;
+    while i < a.len() {
+        a[i] = 0;
+        i += 1;
+    }
+}
+
+// Zeroes the words that planning over n seeds may have used, 24 for each, and leaves the rest.
+pub fn clear(w: &mut [u32], n: usize)
+    requires { ⌜ n * 24 ≤ length (now w) ⌝ }
+    ensures { λ _. ⌜ now (w .exit) ≡ over (replicate (n * 24) 0) (now (w .entry)) ⌝ }
+{
+    let end = n * 24;
+    wipe(&mut w[0..end]);
 }
