@@ -8,6 +8,7 @@ use native.Mathlib.Omega.{arith}
 use lib.ListN.{length, getD, set, take, drop, length-set, length-take, List·getD-eq-default}
 use lib.Seq.{getD-set-same, getD-set-other, getD-take, take-set-lt, drop-set-lt, length-take-le}
 use Rattle.cost.specs.declared.Stats.{Stats}
+use Rattle.cost.specs.Statistics.{Neighbours}
 use Rattle.merge.specs.Links.{Cuts}
 use Rattle.merge.specs.Tables.{base, records, waiting, field, next, prev, statAt, isLive, put, putStat, linked}
 
@@ -46,6 +47,9 @@ records-stat n w x h = λ i. record {
 -- the statistics of a pair as they are read
 pub read-pair : (n : ℕ) (w : List ℕ) (l m r : ℕ) (a b : Stats) → Cuts n l m r → a ≡ statAt w l → b ≡ statAt w m → (a ≡ statAt (records n w) l) × (b ≡ statAt (records n w) m)
 read-pair n w l m r a b c ea eb = (ea ∙ records-stat n w l (omega arith), eb ∙ records-stat n w m (omega arith))
+
+pub read-neighbours : (n : ℕ) (w : List ℕ) (l m r : ℕ) (a b : Stats) → Cuts n l m r → a ≡ statAt w l → b ≡ statAt w m → Neighbours (statAt (records n w) l) (statAt (records n w) m) → Neighbours a b
+read-neighbours n w l m r a b c ea eb k = let e = read-pair n w l m r a b c ea eb in rw (e .0, e .1) k
 
 -- what the test of an offer answered is so of the records
 pub read-live : (n : ℕ) (w : List ℕ) (l m r : ℕ) (b u : Bool) → Cuts n l m r → b ≡ isLive w l m r → b ≡ u → isLive (records n w) l m r ≡ u

@@ -1,3 +1,5 @@
+-- `merge::admitted` meets its contract.
+-- Assumes nothing.
 use mathlib.Core.Path.{_≡_, refl, sym, ap, _∙_}
 use native.Mathlib.Omega.{arith}
 use Rattle.merge.proofs.Segments.{join-sound, admits-long, admits-by}

@@ -1,3 +1,5 @@
+-- `merge::cell` meets its contract.
+-- Assumes nothing.
 use Rattle.merge.specs.Tables.{field}
 use borrow.Author.Needs.{needs}
 use Rattle.merge.proofs.cell.Statement.{statement}

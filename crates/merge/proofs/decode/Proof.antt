@@ -1,3 +1,5 @@
+-- `merge::decode` meets its contract.
+-- Assumes nothing.
 use mathlib.Core.Path.{refl}
 use Rattle.merge.specs.Keys.{pairOf}
 use borrow.Author.Needs.{needs}

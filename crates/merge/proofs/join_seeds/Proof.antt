@@ -30,44 +30,54 @@ join-seeds-spec =
     μ-loop
     (λ c κs. omega arith)
     (λ c κs.
-    let given = c .before .before .before .before .before .before in
-    (omega arith, subst (λ (f : ℕ → Stats). Seeds f (given .args .n)) (sym (stats-kept _ _ _ (c .before .before .before .start .last .0) (c .before .before .before .start .ensures) refl)) (given .pre .1)))
+    let first = c .before .before .before in
+    let given = first .before .before .before in
+    (omega arith, subst (λ (f : ℕ → Stats). Seeds f (given .args .n)) (sym (stats-kept _ _ _ (first .start .last .0) (first .start .ensures) refl)) (given .pre .1)))
     (λ c.
     let all = c .before .before in
-    let first = c .before .before .before .before .before .before in
-    let given = c .before .before .before .before .before .before .before .before .before in
+    let first = all .before .before .before .before in
+    let given = first .before .before .before in
     let same = all .offer-all .ensures .1 in
-    let kept = stats-kept _ _ _ _ (first .start .ensures) same in
+    let seeds = subst (λ (f : ℕ → Stats). Seeds f (given .args .n)) (sym (stats-kept _ _ _ _ (first .start .ensures) same)) (given .pre .1) in
     let o = subst (λ (t : List ℕ). Offering (statAt t) (given .args .n) (given .args .n - 1) (all .offer-all .last .0) (all .offer-all .result)) (sym same) (all .offer-all .ensures .0) in
-    (refl, subst (λ (f : ℕ → Stats). Seeds f (given .args .n)) (sym kept) (given .pre .1), begin (omega arith) (omega arith) (seeded _ _ _ _ (first .start .ensures) same) o))
+    (refl, seeds, begin (omega arith) (omega arith) (seeded _ _ _ _ (first .start .ensures) same) o))
     (λ c. omega arith)
     (λ c. omega arith)
-    (λ c κs. let at = c .before .before in (omega (arith, state-most (at .loop .inv .2) (at .loop .inv .1)), at .loop .inv .2 .heap))
+    (λ c κs. let inv = c .before .before .loop .inv in (omega (arith, state-most (inv .2) (inv .1)), inv .2 .heap))
     (λ c. omega arith)
     (λ c κs. tt)
     (λ c κs.
     let pop = c .before .before .before .before in
-    let turn = c .before .before .before .before .before .before in
-    let at = c .before .before .before .before .before .before .before in
-    let given = c .before .before .before .before .before .before .before .before .before .before .before .before .before .before .before .before .before in
-    turn-asks _ _ (given .pre .0 .1) (at .loop .inv .1) (at .loop .inv .2) (turn .loop-test .taken) (pop .pop-at .ensures .0) (pop .pop-at .ensures .1) (c .decode .result) (c .decode .ensures)
-    (omega (arith, given .pre .0 .2, pop .pop-at .kept .0, at .loop .inv .0, c .before .before .before .before .before .before .before .before .before .before .offer-all .kept .0, c .before .before .before .before .before .before .before .before .before .before .before .before .before .before .start .kept .0)))
-    (λ c. let at = c .before .before .before .before .before .before .before .before .before .before in omega (arith, state-most (at .loop .inv .2) (at .loop .inv .1)))
-    (λ c. let at = c .before .before .before .before .before .before .before .before .before .before in omega (arith, state-most (at .loop .inv .2) (at .loop .inv .1), c .before .before .before .before .before .before .before .before .before .loop-test .taken))
+    let test = pop .before .before in
+    let at = test .before in
+    let all = at .before .before .before in
+    let first = all .before .before .before .before in
+    let pre = first .before .before .before .pre in
+    let inv = at .loop .inv in
+    turn-asks _ _ (pre .0 .1) (inv .1) (inv .2) (test .loop-test .taken) (pop .pop-at .ensures .0) (pop .pop-at .ensures .1) (c .decode .result) (c .decode .ensures)
+    (omega (arith, pre .0 .2, pop .pop-at .kept .0, inv .0, all .offer-all .kept .0, first .start .kept .0)))
+    (λ c. let inv = c .before .before .before .before .before .before .before .before .before .before .loop .inv in omega (arith, state-most (inv .2) (inv .1)))
+    (λ c. let inv = c .before .before .before .before .before .before .before .before .before .before .loop .inv in omega (arith, state-most (inv .2) (inv .1)))
     (λ c.
-    let taking = c .before .before in
-    let pop = c .before .before .before .before .before .before .before in
-    let test = c .before .before .before .before .before .before .before .before .before in
-    let inv = c .before .before .before .before .before .before .before .before .before .before .loop .inv in (
-      taking .take-offer .kept .0 ∙ pop .pop-at .kept .0 ∙ inv .0,
+    let take = c .before .before in
+    let pair = take .before in
+    let pop = pair .before .before .before .before in
+    let test = pop .before .before in
+    let inv = test .before .loop .inv in (
+      take .take-offer .kept .0 ∙ pop .pop-at .kept .0 ∙ inv .0,
       inv .1,
-      turn _ _ (c .before .before .before .before .before .before .before .before .before .before .before .before .before .before .before .before .before .before .before .before .pre .0 .1) (inv .1) (inv .2) (test .loop-test .taken) (pop .pop-at .ensures .0) (pop .pop-at .ensures .1) (c .before .before .before .decode .result) _ _ (c .before .before .before .decode .ensures) (taking .take-offer .ensures),
+      turn _ _ (c .before .before .before .before .before .before .before .before .before .before .before .before .before .before .before .before .before .before .before .before .pre .0 .1) (inv .1) (inv .2) (test .loop-test .taken) (pop .pop-at .ensures .0) (pop .pop-at .ensures .1) (pair .decode .result) _ _ (pair .decode .ensures) (take .take-offer .ensures),
     ))
-    (λ c. c .before .loop .inv .0 ∙ c .before .before .before .before .offer-all .kept .0 ∙ c .before .before .before .before .before .before .before .before .start .kept .0)
+    (λ c.
+    let all = c .before .before .before .before in
+    c .before .loop .inv .0 ∙ all .offer-all .kept .0 ∙ all .before .before .before .before .start .kept .0)
     (λ c.
     let at = c .before in
-    let given = c .before .before .before .before .before .before .before .before .before .before .before in
-    let kept = stats-kept _ _ _ _ (c .before .before .before .before .before .before .before .before .start .ensures) (c .before .before .before .before .offer-all .ensures .1) in
-    let state = at .loop .inv .2 in
-    subst (λ (f : ℕ → Stats). (at .loop .taken ≡ offersOf f (given .args .n)) × ((at .loop .taken ≤ 3 * (given .args .n - 1)) × Merged f (given .args .n) (records (given .args .n) (at .loop .w)))) kept
-    (end-count (c .loop-test .left) state, (omega (arith, state-most state (at .loop .inv .1)), end-merged (c .loop-test .left) state))))
+    let all = at .before .before .before in
+    let first = all .before .before .before .before in
+    let n = first .before .before .before .args .n in
+    let kept = stats-kept _ _ _ _ (first .start .ensures) (all .offer-all .ensures .1) in
+    let inv = at .loop .inv in
+    let most : at .loop .taken ≤ 3 * (n - 1) = omega (arith, state-most (inv .2) (inv .1)) in
+    subst (λ (f : ℕ → Stats). (at .loop .taken ≡ offersOf f n) × ((at .loop .taken ≤ 3 * (n - 1)) × Merged f n (records n (at .loop .w)))) kept
+    (end-count (c .loop-test .left) (inv .2), (most, end-merged (c .loop-test .left) (inv .2)))))

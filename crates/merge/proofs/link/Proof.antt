@@ -1,3 +1,5 @@
+-- `merge::link` meets its contract.
+-- Assumes nothing.
 use Rattle.merge.specs.Tables.{linked}
 use borrow.Author.Needs.{needs}
 use Rattle.merge.proofs.link.Statement.{statement}

@@ -1,3 +1,5 @@
+-- `merge::live` meets its contract.
+-- Assumes nothing.
 use Rattle.merge.specs.Tables.{isLive}
 use Rattle.merge.proofs.Adds.{and-both}
 use borrow.Author.Needs.{needs}

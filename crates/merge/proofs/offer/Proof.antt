@@ -1,10 +1,25 @@
-use mathlib.Core.Path.{_≡_, refl, sym, ap, _∙_}
+-- `merge::offer` meets its contract: what is read of the two segments are the statistics in their records.
+-- Assumes nothing.
+use mathlib.Core.Path.{_≡_, sym, _∙_}
 use native.Mathlib.Omega.{arith}
-use Rattle.merge.proofs.Tables.{read-pair}
-use Rattle.merge.proofs.Adds.{offered-yes, offered-no}
 use borrow.Author.Needs.{needs}
+use Rattle.cost.specs.Statistics.{Neighbours}
+use Rattle.merge.specs.Tables.{records, statAt}
+use Rattle.merge.proofs.Tables.{read-pair, read-neighbours}
+use Rattle.merge.proofs.Adds.{offered-yes, offered-no}
 use Rattle.merge.proofs.offer.Statement.{statement}
 use Rattle.merge.proofs.offer.Tie as tie
+
+abbrev given : tie.After-segment2 → tie.Start
+given s = s .before .before .before .before .before
+
+stats : (s : tie.After-segment2)
+    → (s .before .before .segment .result ≡ statAt (records (given s .args .n) (given s .args .w .now)) (given s .args .l))
+    × (s .segment2 .result ≡ statAt (records (given s .args .n) (given s .args .w .now)) (given s .args .m))
+stats s = read-pair _ _ _ _ _ _ _ (given s .pre .0 .0) (s .before .before .segment .ensures) (s .segment2 .ensures)
+
+neighbours : (s : tie.After-segment2) → Neighbours (s .before .before .segment .result) (s .segment2 .result)
+neighbours s = read-neighbours _ _ _ _ _ _ _ (given s .pre .0 .0) (s .before .before .segment .ensures) (s .segment2 .ensures) (given s .pre .1 .1 .1)
 
 pub offer-spec : {M : Type 1} → statement M
 offer-spec =
@@ -12,23 +27,22 @@ offer-spec =
     (tie.spec
     (λ c κs. search needs)
     (λ c κs. search needs)
-    (λ c κs. let at = c .before .before .before .before .before in
-    let e = read-pair (at .args .n) (at .args .w .now) (at .args .l) (at .args .m) (at .args .r) (c .before .before .segment .result) (c .segment2 .result) (at .pre .0 .0) (c .before .before .segment .ensures) (c .segment2 .ensures) in
-    rw (e .0, e .1) (at .pre .1 .1 .1))
-    (λ c κs. let at = c .before .before .before .before .before .before .before in
-    let e = read-pair (at .args .n) (at .args .w .now) (at .args .l) (at .args .m) (at .args .r) (c .before .before .before .before .segment .result) (c .before .before .segment2 .result) (at .pre .0 .0) (c .before .before .before .before .segment .ensures) (c .before .before .segment2 .ensures) in
-    (rw (e .0, e .1) (at .pre .1 .1 .1), sym (c .before .admitted .ensures) ∙ c .if1 .taken))
+    (λ c κs. neighbours c)
+    (λ c κs. (neighbours (c .before .before), sym (c .before .admitted .ensures) ∙ c .if1 .taken))
     (λ c κs. search needs)
     (λ c. search needs)
     (λ c. search needs)
     (λ c κs. search needs)
     (λ c. search needs)
     (λ c. search needs)
-    (λ c. let th = c .before .before .before .before .before .before in
-    let at = c .before .before .before .before .before .before .before .before .before .before .before .before .before in
-    let e = read-pair (at .args .n) (at .args .w .now) (at .args .l) (at .args .m) (at .args .r) (c .before .before .before .before .before .before .before .before .before .before .segment .result) (c .before .before .before .before .before .before .before .before .segment2 .result) (at .pre .0 .0) (c .before .before .before .before .before .before .before .before .before .before .segment .ensures) (c .before .before .before .before .before .before .before .before .segment2 .ensures) in
-    offered-yes _ _ _ _ _ _ _ _ _ _ (e .0) (e .1) (sym (th .before .admitted .ensures) ∙ th .if1 .taken) (omega (arith, c .before .before .before .before .encode .ensures, c .before .before .before .before .before .saving .ensures .0)) (c .before .before .push-at .ensures .0) (c .before .before .push-at .ensures .1))
+    (λ c.
+    let push = c .before .before in
+    let key = push .before .before in
+    let saved = key .before in
+    let test = saved .before in
+    let e = stats (test .before .before) in
+    offered-yes _ _ _ _ _ _ _ _ _ _ (e .0) (e .1) (sym (test .before .admitted .ensures) ∙ test .if1 .taken) (omega (arith, key .encode .ensures, saved .saving .ensures .0)) (push .push-at .ensures .0) (push .push-at .ensures .1))
     (λ c. search needs)
-    (λ c. let at = c .before .before .before .before .before .before .before in
-    let e = read-pair (at .args .n) (at .args .w .now) (at .args .l) (at .args .m) (at .args .r) (c .before .before .before .before .segment .result) (c .before .before .segment2 .result) (at .pre .0 .0) (c .before .before .before .before .segment .ensures) (c .before .before .segment2 .ensures) in
-    offered-no _ _ _ _ _ _ _ _ (e .0) (e .1) (sym (c .before .admitted .ensures) ∙ c .if1 .left) (at .pre .1 .1 .0)))
+    (λ c.
+    let read = c .before .before in
+    offered-no _ _ _ _ _ _ _ _ (stats read .0) (stats read .1) (sym (c .before .admitted .ensures) ∙ c .if1 .left) (given read .pre .1 .1 .0)))

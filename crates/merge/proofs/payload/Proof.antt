@@ -1,3 +1,5 @@
+-- `merge::payload` meets its contract.
+-- Assumes nothing.
 use native.Mathlib.Omega.{arith}
 use Rattle.merge.specs.Pairs.{payload}
 use Rattle.merge.proofs.Segments.{payload-most}

@@ -1,3 +1,5 @@
+-- `merge::put` meets its contract.
+-- Assumes nothing.
 use mathlib.Core.Path.{refl}
 use Rattle.merge.specs.Tables.{put}
 use borrow.Author.Needs.{needs}

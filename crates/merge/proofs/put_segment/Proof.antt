@@ -1,3 +1,5 @@
+-- `merge::put_segment` meets its contract.
+-- Assumes nothing.
 use Rattle.merge.specs.Tables.{putStat}
 use borrow.Author.Needs.{needs}
 use Rattle.merge.proofs.put_segment.Statement.{statement}

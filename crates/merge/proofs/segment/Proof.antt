@@ -1,3 +1,5 @@
+-- `merge::segment` meets its contract.
+-- Assumes nothing.
 use mathlib.Core.Path.{refl}
 use Rattle.merge.specs.Tables.{statAt, field}
 use borrow.Author.Needs.{needs}

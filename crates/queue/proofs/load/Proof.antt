@@ -1,3 +1,5 @@
+-- `queue::load` meets its contract.
+-- Assumes nothing.
 use borrow.Author.Needs.{needs}
 use Rattle.queue.specs.Keys.{key}
 use Rattle.queue.proofs.load.Statement.{statement}

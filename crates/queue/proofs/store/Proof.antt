@@ -1,3 +1,5 @@
+-- `queue::store` meets its contract.
+-- Assumes nothing.
 use mathlib.Core.Path.{refl}
 use borrow.Author.Needs.{needs}
 use Rattle.queue.specs.Keys.{put}
