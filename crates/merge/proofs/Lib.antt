@@ -13,3 +13,5 @@ pub mod State
 pub mod Turn
 pub mod Begin
 pub mod Loop
+pub mod Same
+pub mod Rows
