@@ -1,11 +1,12 @@
 -- Which pairs are admitted and what they save, from the statistics of the seeds: document 01, "Merging".
 -- Assumes nothing.
 use mathlib.Core.Bool.{Bool}
+use mathlib.Core.List.{List}
 use Prim.Native.Nat.{ℕ, zero, suc, _+_, _-_, _<_}
 use lib.Dec.{leb}
 use Rattle.model.specs.Tests.{both}
 use Rattle.cost.specs.declared.Stats.{Stats}
-use Rattle.cost.specs.Statistics.{Sound, joined, spanOf}
+use Rattle.cost.specs.Statistics.{Sound, statsOf, joined, spanOf}
 use Rattle.cost.specs.Forms.{localForm}
 
 -- the bytes of a segment: those of its cheapest local form
@@ -39,3 +40,10 @@ saving f l m r = saves (segmentOf f l m) (segmentOf f m r)
 pub record Seeds (f : ℕ → Stats) (n : ℕ) : Type 0 where
   pub sound : (i : ℕ) → i < n → Sound (f i)
   pub apart : (i : ℕ) → suc i < n → f i .last < f (suc i) .first
+
+-- the same over rows: `rows l m` are the rows of the seeds from the cut l to the cut m
+unfoldable pub rowsAdmitted : (ℕ → ℕ → List ℕ) → ℕ → ℕ → ℕ → Bool
+rowsAdmitted rows l m r = admits (statsOf (rows l m)) (statsOf (rows m r))
+
+unfoldable pub rowsSaving : (ℕ → ℕ → List ℕ) → ℕ → ℕ → ℕ → ℕ
+rowsSaving rows l m r = saves (statsOf (rows l m)) (statsOf (rows m r))
