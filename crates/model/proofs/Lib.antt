@@ -7,3 +7,5 @@ pub mod Pieces
 pub mod Writing
 pub mod Complement
 pub mod Runs
+pub mod Examples
+pub mod Counted

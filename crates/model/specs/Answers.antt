@@ -1,5 +1,6 @@
 -- What a call answers, in document 01's numbers, and what it leaves in a lent slice.
 -- Assumes nothing.
+use mathlib.Core.Path.{_≡_}
 use mathlib.Core.List.{List, [], _++_}
 use Prim.Native.Nat.{ℕ}
 use lib.ListN.{length, drop}
@@ -18,3 +19,8 @@ refused k = record { number = k; values = [] }
 -- a lent slice with the front written over, and the rest as it was
 unfoldable pub over : List ℕ → List ℕ → List ℕ
 over front xs = front ++ drop (length front) xs
+
+-- a walk left the positions in front of the lent slice and the rest as it was, and answered their number
+pub record Walked (rows before after : List ℕ) (n : ℕ) : Type 0 where
+  pub written : after ≡ over rows before
+  pub number : n ≡ length rows

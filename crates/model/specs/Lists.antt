@@ -4,15 +4,19 @@ use mathlib.Core.Path.{_≡_}
 use mathlib.Core.Bool.{Bool, true, false}
 use mathlib.Core.List.{List, [], _∷_, _++_}
 use Prim.Native.Nat.{ℕ, zero, suc, _+_, _-_, _%_, _<_, _≤_}
-use lib.Dec.{ltb, eqb}
+use lib.Dec.{ltb, leb, eqb}
 use lib.ListN.{length, take, drop, getD}
-use Rattle.model.specs.Tests.{pick}
+use Rattle.model.specs.Tests.{both, pick}
 use Rattle.model.specs.declared.Place.{Place}
 
 -- strictly rising, each at least a and below b: one notion for rows, holes and the starts of segments
 pub data Rising : ℕ → ℕ → List ℕ → Type 0 where
   none : {a b : ℕ} → Rising a b []
   more : {a b x : ℕ} {xs : List ℕ} → a ≤ x → x < b → Rising (suc x) b xs → Rising a b (x ∷ xs)
+
+-- what every form asks of a count: at least one row, not more than the span, not more than ordinals can number
+unfoldable pub counted : ℕ → ℕ → Bool
+counted span n = both (leb 1 n) (both (leb n span) (leb n 65535))
 
 -- how many of the list are below p
 unfoldable pub below : List ℕ → ℕ → ℕ
@@ -50,7 +54,12 @@ unfoldable pub shift : ℕ → List ℕ → List ℕ
 shift b [] = []
 shift b (x ∷ xs) = (b + x) ∷ shift b xs
 
--- the same in 32 bits, as a walk over any bytes writes it: where nothing passes 2^32 it is the shift
+-- a list counted from 0 anew, where it was counted from b
+unfoldable pub lower : ℕ → List ℕ → List ℕ
+lower b [] = []
+lower b (x ∷ xs) = (x - b) ∷ lower b xs
+
+-- the shift in 32 bits, as a walk over any bytes writes it: where nothing passes 2^32 it is the shift
 unfoldable pub moved : ℕ → List ℕ → List ℕ
 moved b [] = []
 moved b (x ∷ xs) = (b + x) % 4294967296 ∷ moved b xs

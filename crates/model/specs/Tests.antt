@@ -3,7 +3,7 @@
 -- Assumes nothing.
 use mathlib.Core.Bool.{Bool, true, false}
 use mathlib.Core.List.{List, [], _∷_, _++_}
-use Prim.Native.Nat.{ℕ, zero, suc}
+use Prim.Native.Nat.{ℕ, zero, suc, _+_}
 
 -- both tests hold
 unfoldable pub both : Bool → Bool → Bool
@@ -29,3 +29,8 @@ tabulate f (suc n) = tabulate f n ++ (f n ∷ [])
 unfoldable pub flat : {A : Type 0} → (ℕ → List A) → ℕ → List A
 flat g zero = []
 flat g (suc n) = flat g n ++ g n
+
+-- f 0 + f 1 + .. + f (n - 1)
+unfoldable pub total : (ℕ → ℕ) → ℕ → ℕ
+total f zero = 0
+total f (suc n) = total f n + f n

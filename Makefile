@@ -1,0 +1,32 @@
+# make        prove every layer and build what a host needs, as far as it exists yet
+# make test   all checking; the last line is rt's own 'N passed, 0 failed'
+# make bench  time the original and, where it exists, Pelisafu beside it
+.PHONY: all test bench clean
+
+# A part of dist/ is built once its crate is listed in crates.txt.
+HAS = $(shell grep -qE '^$(1):' crates.txt && echo yes)
+
+all:
+	rt check
+	@mkdir -p dist
+ifeq ($(call HAS,pelisafu),yes)
+	rt staticlib pelisafu
+	cp target/staticlib/libpelisafu.a include/pelisafu.h dist/
+else
+	@echo "dist/libpelisafu.a: not yet, the crate pelisafu is not written"
+endif
+ifeq ($(call HAS,lister),yes)
+	cp target/bin/lister dist/lister
+	dist/lister < tests/listing/sample.bin
+else
+	@echo "dist/lister: not yet, the crate lister is not written"
+endif
+
+test:
+	@tests/run
+
+bench:
+	differential/run bench
+
+clean:
+	rm -rf target dist differential/target

@@ -1,0 +1,5 @@
+pub mod Bits
+pub mod Places
+pub mod Halves
+pub mod Numbers
+pub mod Examples
