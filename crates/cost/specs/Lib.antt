@@ -1,3 +1,4 @@
 pub mod Statistics
 pub mod Sizes
 pub mod Forms
+pub mod Rows

@@ -1,10 +1,15 @@
 // What a segment's forms cost: its statistics, and the cheapest form.
 ghost use mathlib.Core.Path.{_≡_};
 ghost use mathlib.Core.Bool.{false};
-ghost use Prim.Native.Nat.{_+_, _*_, _<_, _≤_};
+ghost use Prim.Native.Nat.{suc, _+_, _-_, _*_, _<_, _≤_};
+ghost use lib.Dec.{eqb};
+ghost use lib.ListN.{length};
 ghost use Rattle.model.specs.Tests.{pick};
-ghost use Rattle.cost.specs.Statistics.{Sound, Neighbours, joined, spanOf, holesOf};
-ghost use Rattle.cost.specs.Sizes.{groupsOf, bitmapLength, depthOf};
+ghost use Rattle.model.specs.Lists.{runsOf};
+ghost use Rattle.cost.specs.Statistics.{Sound, Neighbours, statsOf, joined, spanOf};
+ghost use Rattle.cost.specs.Rows.{positionsOf, runEnd, Covered};
+ghost use Rattle.bitmap.specs.Body.{bitmapLength};
+ghost use Rattle.cost.specs.Sizes.{depthOf};
 ghost use Rattle.cost.specs.Forms.{Over, itemsForm, bitmapForm, denseForm, orderOf, lex, keyOf, lesser, least, localForm, runsForm, plainOffers, wholeForm};
 
 // Statistics of some positions that rise: first and last, how many, and how many runs they make.
@@ -78,11 +83,12 @@ fn bitmap(trimmed: bool, header: u64, span: u64) -> Form
     requires { ⌜ (header ≤ 12) × (span ≤ 4294967295) ⌝ }
     ensures { λ r. ⌜ r ≡ bitmapForm trimmed header span ⌝ }
 {
+    let words = (span + 63) / 64;
     Form {
         tag: 6,
         trimmed: trimmed,
         bytes: header + bitmap_length(span),
-        depth: depth((span + 255) / 256),
+        depth: depth((words + 3) / 4),
         words: 4,
     }
 }
@@ -215,4 +221,122 @@ pub fn whole_form(s: Stats, span: u32) -> Form
     let missing = items(8, true, 8 + 2 * holes, holes);
     let bits = cheaper(plain_form(s, span), bitmap(true, 12, local));
     consider(bits, local <= 65535, missing)
+}
+
+// Whether b is the number after a.
+fn follows(a: u64, b: u64) -> bool
+    ensures { λ r. ⌜ r ≡ eqb b (suc a) ⌝ }
+{
+    if b == 0 {
+        return false;
+    }
+    b - 1 == a
+}
+
+fn follows16(a: u16, b: u16) -> bool
+    ensures { λ r. ⌜ r ≡ eqb b (suc a) ⌝ }
+{
+    follows(a as u64, b as u64)
+}
+
+// Where the run of rows that starts at index i ends.
+pub fn run_end(rows: &[u64], i: usize) -> usize
+    requires { ⌜ i < length (now rows) ⌝ }
+    ensures { λ r. ⌜ r ≡ runEnd (now (rows .entry)) i ⌝ }
+{
+    let mut j = i + 1;
+    while j < rows.len() {
+        if !follows(rows[j - 1], rows[j]) {
+            return j;
+        }
+        j += 1;
+    }
+    j
+}
+
+// The same of ordinals.
+pub fn run_end16(ordinals: &[u16], i: usize) -> usize
+    requires { ⌜ i < length (now ordinals) ⌝ }
+    ensures { λ r. ⌜ r ≡ runEnd (now (ordinals .entry)) i ⌝ }
+{
+    let mut j = i + 1;
+    while j < ordinals.len() {
+        if !follows16(ordinals[j - 1], ordinals[j]) {
+            return j;
+        }
+        j += 1;
+    }
+    j
+}
+
+// How many runs rows make.
+fn count_runs(rows: &[u64]) -> u32
+    requires { ⌜ length (now rows) ≤ 4294967295 ⌝ }
+    ensures { λ r. ⌜ r ≡ length (runsOf (now (rows .entry))) ⌝ }
+{
+    let mut runs: u32 = 0;
+    let mut i = 0;
+    while i < rows.len() {
+        i = run_end(rows, i);
+        runs += 1;
+    }
+    runs
+}
+
+// The same of ordinals.
+fn count_runs16(ordinals: &[u16]) -> u32
+    requires { ⌜ length (now ordinals) ≤ 4294967295 ⌝ }
+    ensures { λ r. ⌜ r ≡ length (runsOf (now (ordinals .entry))) ⌝ }
+{
+    let mut runs: u32 = 0;
+    let mut i = 0;
+    while i < ordinals.len() {
+        i = run_end16(ordinals, i);
+        runs += 1;
+    }
+    runs
+}
+
+// A row's position.
+pub fn position(row: u64, start: u64) -> u32
+    requires { ⌜ (start ≤ row) × (row < start + 4294967295) ⌝ }
+    ensures { λ r. ⌜ r ≡ row - start ⌝ }
+{
+    (row - start) as u32
+}
+
+// The statistics of rows in a coverage.
+pub fn rows_stats(rows: &[u64], start: u64) -> Stats
+    requires { ⌜ Covered start (now rows) ⌝ }
+    ensures { λ r. ⌜ r ≡ statsOf (positionsOf start (now (rows .entry))) ⌝ }
+{
+    let n = rows.len();
+    let runs = count_runs(rows);
+    Stats {
+        first: position(rows[0], start),
+        last: position(rows[n - 1], start),
+        count: n as u32,
+        runs: runs,
+    }
+}
+
+fn wide(x: u16) -> u32
+    ensures { λ r. ⌜ r ≡ x ⌝ }
+{
+    x as u32
+}
+
+// The statistics of ordinals.
+pub fn ordinals_stats(ordinals: &[u16]) -> Stats
+    requires { ⌜ (1 ≤ length (now ordinals)) × (length (now ordinals) ≤ 4294967295) ⌝ }
+    ensures { λ r. ⌜ r ≡ statsOf (now (ordinals .entry)) ⌝ }
+{
+    let n = ordinals.len();
+    let runs = count_runs16(ordinals);
+    Stats {
+        first: wide(ordinals[0]),
+        last: wide(ordinals[n - 1]),
+        count: n as u32,
+        runs: runs,
+    }
 }
