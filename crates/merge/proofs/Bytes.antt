@@ -13,9 +13,9 @@ use Rattle.model.proofs.Tests.{either}
 use Rattle.cost.specs.declared.Stats.{Stats}
 use Rattle.cost.specs.declared.Form.{Form}
 use Rattle.cost.specs.Statistics.{spanOf, holesOf}
-use Rattle.cost.specs.Sizes.{bitmapLength}
-use Rattle.cost.specs.Forms.{itemsForm, bitmapForm, denseForm, lex, keyOf, lesser, least, always, localOffers, localForm}
-use Rattle.cost.proofs.Least.{least-first, least-each, local-bitmap}
+use Rattle.bitmap.specs.Body.{bitmapLength}
+use Rattle.cost.specs.Forms.{itemsForm, bitmapForm, denseForm, always, localOffers, localForm}
+use Rattle.cost.proofs.Least.{also, end, least-one, least-first, least-each, local-bitmap}
 use Rattle.merge.specs.Pairs.{lower, payload}
 
 module _ (a b : ℕ) where
@@ -33,10 +33,6 @@ module _ (a b : ℕ) where
 
 lower-most : (a b x : ℕ) → x ≤ a → x ≤ b → x ≤ lower a b
 lower-most a b x p q = ⊎-elim (λ e. omega arith) (λ e. omega arith) (lower-either a b)
-
-lesser-above : (f g : Form) (x : ℕ) → x ≤ f .bytes → x ≤ g .bytes → x ≤ lesser f g .bytes
-unfolding lesser pick
-lesser-above f g x p q = ⊎-elim (λ e. rw e q) (λ e. rw e p) (either (lex (keyOf g) (keyOf f)))
 
 module _ (s : Stats) where
   abbrev list : Form
@@ -57,17 +53,11 @@ module _ (s : Stats) where
   few-bits : fewest ≤ bitmapLength (spanOf s)
   few-bits = le-trans (lower-right _ _) (lower-right _ _)
 
-  -- dense is taken only where nothing is missing
-  with-dense : fewest ≤ pick (eqb (holesOf s) 0) (lesser list denseForm) list .bytes
-  unfolding pick itemsForm denseForm
-  with-dense = ⊎-elim
-      (λ e. rw e (lesser-above list denseForm fewest few-list (omega (arith, few-holes, eqb-true (holesOf s) 0 e))))
-      (λ e. rw e few-list)
-      (either (eqb (holesOf s) 0))
-
+  -- dense may be taken only where nothing is missing
   above : fewest ≤ payload s
-  unfolding payload localForm localOffers least itemsForm bitmapForm pick
-  above = lesser-above _ _ fewest (lesser-above _ _ fewest (lesser-above _ _ fewest with-dense few-runs) few-holes) (omega (arith, few-bits))
+  unfolding payload localForm localOffers itemsForm denseForm bitmapForm
+  above = least-one (λ g. fewest ≤ g .bytes) list (localOffers s) few-list
+      (also (λ t. omega (arith, few-holes, eqb-true (holesOf s) 0 t)) (also (λ _. few-runs) (also (λ _. few-holes) (also (λ _. omega (arith, few-bits)) end))))
 
   under-list : payload s ≤ 2 * s .count
   unfolding payload localForm itemsForm
