@@ -17,3 +17,4 @@ pub mod Same
 pub mod Rows
 pub mod Bytes
 pub mod Ends
+pub mod Examples
