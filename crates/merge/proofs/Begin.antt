@@ -1,26 +1,26 @@
 -- The start of merging: each seed is a segment, and each admitted neighbouring pair of seeds waits in the queue.
 -- Assumes nothing.
 use mathlib.Core.Path.{_≡_, refl, sym, ap, fun-ext, _∙_}
-use mathlib.Core.Logic.{_⊎_, ⊎-elim, inl, inr}
+use mathlib.Core.Logic.{⊎-elim}
 use mathlib.Core.List.{List, [], _∷_}
-use mathlib.Core.Bool.{Bool, true, false}
-use Prim.Native.Nat.{ℕ, zero, suc, _+_, _*_, _-_, _<_, _≤_}
+use mathlib.Core.Bool.{Bool, true}
+use Prim.Native.Nat.{ℕ, zero, suc, _+_, _-_, _<_, _≤_}
 use native.Mathlib.Omega.{arith}
 use native.Mathlib.Numerals.{add-one}
 use lib.ListN.{length}
 use Rattle.model.proofs.Tests.{order, same-or-not}
 use Rattle.cost.specs.declared.Stats.{Stats}
-use Rattle.queue.specs.Keys.{key, occ, Heap}
+use Rattle.queue.specs.Keys.{occ}
 use Rattle.merge.specs.Rule.{oneIf, cutsFrom, pairs, afterJoins, laterOffers, merged, offers}
-use Rattle.merge.specs.Links.{Chain, end, link, Cuts}
+use Rattle.merge.specs.Links.{Chain, end, link}
 use Rattle.merge.specs.Keys.{code}
-use Rattle.merge.specs.Pairs.{admits, saves, segmentOf, admitted, saving, Seeds}
+use Rattle.merge.specs.Pairs.{admits, saves, admitted, saving}
 use Rattle.merge.specs.Tables.{base, records, waiting, field, next, prev, statAt, put}
-use Rattle.merge.specs.Contracts.{many, Added, pairIs, pairKey, Started, Offering}
-use Rattle.merge.proofs.Cuts.{Meet, cuts-rising, cuts-in, cuts-length, cuts-meet, meet-order}
+use Rattle.merge.specs.Contracts.{Added, Started, Offering}
+use Rattle.merge.proofs.Cuts.{cuts-rising, cuts-in, cuts-meet, meet-order}
 use Rattle.merge.proofs.Links.{Linked}
 use Rattle.merge.proofs.Offers.{one-most}
-use Rattle.merge.proofs.Queue.{Offer, Waiting, along3}
+use Rattle.merge.proofs.Queue.{Waiting, along3}
 use Rattle.merge.proofs.Tables.{put-length, put-here, put-else, put-stat, records-length, records-field, records-stat, records-far}
 use Rattle.merge.proofs.Adds.{Has, added-as, added-kept, added-new, added-only}
 use Rattle.merge.proofs.Segments.{segment-one}

@@ -1,17 +1,17 @@
 -- What `best` picks: an admitted pair that no admitted pair outdoes, or none where none is admitted.
 -- Assumes nothing.
-use mathlib.Core.Path.{_≡_, refl, sym, ap, _∙_}
-use mathlib.Core.Logic.{_⊎_, ⊎-elim, inl, inr}
+use mathlib.Core.Path.{_≡_, refl, _∙_}
+use mathlib.Core.Logic.{⊎-elim}
 use mathlib.Core.List.{List, [], _∷_}
 use mathlib.Core.Bool.{Bool, true, false}
-use Prim.Native.Nat.{ℕ, suc, _<_, _≤_}
+use Prim.Native.Nat.{ℕ, _≤_}
 use native.Mathlib.Omega.{arith}
 use lib.Dec.{leb}
 use borrow.Author.Tests.{leb-true, leb-false}
 use Rattle.model.specs.Tests.{pick}
 use Rattle.model.specs.Lists.{Rising, more}
 use Rattle.model.proofs.Rising.{rising-rest}
-use Rattle.model.proofs.Tests.{either, never}
+use Rattle.model.proofs.Tests.{never}
 use Rattle.merge.specs.Rule.{Choice, none, pair, better, best}
 use Rattle.merge.proofs.Cuts.{Meet, here, there, meet-cases, meet-order, meet-three}
 

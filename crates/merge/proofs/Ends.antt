@@ -1,22 +1,21 @@
 -- What merging ends with: neighbours that cost more joined, and all the rows.
 -- Assumes nothing.
-use mathlib.Core.Path.{_≡_, sym, ap, _∙_}
+use mathlib.Core.Path.{_≡_, sym, ap}
 use mathlib.Core.Logic.{⊎-elim}
 use mathlib.Core.List.{List, [], _∷_}
-use mathlib.Core.Bool.{Bool, false}
+use mathlib.Core.Bool.{false}
 use Prim.Native.Nat.{ℕ, suc, _+_, _*_, _-_, _<_, _≤_}
-use native.Mathlib.Nat.{le-refl}
 use native.Mathlib.Omega.{arith}
 use lib.ListN.{length}
 use Rattle.model.specs.Lists.{Rising, more}
 use Rattle.cost.specs.declared.Stats.{Stats}
 use Rattle.cost.specs.Statistics.{spanOf}
 use Rattle.merge.specs.Rule.{cutsFrom, counted, merged}
-use Rattle.merge.specs.Links.{Chain, end, link}
+use Rattle.merge.specs.Links.{Chain, link}
 use Rattle.merge.specs.Tables.{next}
 use Rattle.merge.specs.Pairs.{payload, segmentOf, admitted, saving, Seeds}
 use Rattle.merge.specs.Contracts.{cutsOf, offersOf, Merged}
-use Rattle.merge.proofs.Cuts.{Meet, In, first, later, in-cases, in-some, meet-order, in-without, cuts-rising, cuts-in}
+use Rattle.merge.proofs.Cuts.{Meet, In, first, in-cases, in-some, meet-order, in-without, cuts-rising, cuts-in}
 use Rattle.merge.proofs.Joins.{joins-keep, merged-ends, merged-rising}
 use Rattle.merge.proofs.Offers.{offers-most}
 use Rattle.merge.proofs.Segments.{segment-join, refuses, counts-kept}

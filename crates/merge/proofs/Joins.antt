@@ -1,19 +1,18 @@
 -- What joining by the plain rule keeps and how it ends: cuts rise, what the segments hold together stays the same after every
 -- join, and at the end no pair is admitted.
 -- Assumes nothing.
-use mathlib.Core.Path.{_≡_, refl, sym, ap, _∙_}
+use mathlib.Core.Path.{_≡_, refl, ap, _∙_}
 use mathlib.Core.Logic.{⊎-elim}
 use mathlib.Core.List.{List, [], _∷_}
-use mathlib.Core.Bool.{Bool, true, false}
+use mathlib.Core.Bool.{Bool, false}
 use Prim.Native.Nat.{ℕ, zero, suc, _+_, _-_, _<_, _≤_}
 use native.Mathlib.Nat.{zero-add, le-refl}
 use native.Mathlib.Omega.{arith}
 use lib.ListN.{length}
 use Rattle.model.specs.Lists.{Rising, more}
-use Rattle.model.proofs.Rising.{rising-rest}
 use Rattle.merge.specs.Rule.{Choice, none, pair, without, cutsFrom, counted, best, pairsWith, afterJoins, laterOffers, merged}
-use Rattle.merge.proofs.Cuts.{Meet, here, there, meet-cases, meet-order, meet-middle, meet-three, without-hit, without-miss, rising-without, length-without, cuts-rising}
-use Rattle.merge.proofs.Best.{Best, Chosen, chosen}
+use Rattle.merge.proofs.Cuts.{Meet, there, meet-cases, meet-order, meet-middle, meet-three, without-hit, without-miss, rising-without, length-without, cuts-rising}
+use Rattle.merge.proofs.Best.{Best, chosen}
 
 -- what a choice is, with its equation
 pub by-choice : {P : Type 0} (q : Choice) → (q ≡ none → P) → ((l m r : ℕ) → q ≡ pair l m r → P) → P

@@ -1,16 +1,16 @@
 -- The table of ends as a function: `nx x` is the cut after the cut x, and 0 where x is no cut or the last one.
 -- Assumes nothing.
-use mathlib.Core.Path.{_≡_, refl, sym, ap, subst, _∙_}
+use mathlib.Core.Path.{_≡_, refl, sym, ap, _∙_}
 use mathlib.Core.Logic.{⊎-elim}
 use mathlib.Core.List.{List, [], _∷_}
-use Prim.Native.Nat.{ℕ, zero, suc, _+_, _<_, _≤_}
+use Prim.Native.Nat.{ℕ, suc, _<_, _≤_}
 use native.Mathlib.Nat.{le-refl}
 use native.Mathlib.Omega.{arith}
 use Rattle.model.specs.Lists.{Rising, more}
 use Rattle.model.proofs.Tests.{same-or-not}
-use Rattle.merge.specs.Rule.{without, cutsFrom}
+use Rattle.merge.specs.Rule.{without}
 use Rattle.merge.specs.Links.{Chain, end, link}
-use Rattle.merge.proofs.Cuts.{Meet, here, there, In, first, later, in-some, meet-cases, meet-order, meet-left, meet-three, without-hit, without-miss, in-without, rising-without, cuts-rising, cuts-in}
+use Rattle.merge.proofs.Cuts.{Meet, here, there, In, first, later, in-some, meet-cases, meet-order, meet-left, meet-three, without-hit, without-miss, in-without, rising-without}
 
 pub record Linked (n : ℕ) (nx : ℕ → ℕ) (cs : List ℕ) : Type 0 where
   pub rising : Rising 0 (suc n) cs

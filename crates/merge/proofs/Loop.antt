@@ -1,10 +1,10 @@
 -- The merging loop as `join_seeds` runs it: a turn over the words, and its end.
 -- Assumes nothing.
-use mathlib.Core.Path.{_≡_, refl, sym, ap, subst, _∙_}
+use mathlib.Core.Path.{_≡_, refl, sym, ap, _∙_}
 use mathlib.Core.Logic.{⊎-elim}
-use mathlib.Core.List.{List, _∷_}
-use mathlib.Core.Bool.{Bool, true, false}
-use Prim.Native.Nat.{ℕ, suc, _+_, _*_, _-_, _/_, _%_, _<_, _≤_}
+use mathlib.Core.List.{List}
+use mathlib.Core.Bool.{true}
+use Prim.Native.Nat.{ℕ, _+_, _*_, _-_, _/_, _%_, _<_, _≤_}
 use native.Mathlib.Omega.{arith}
 use lib.ListN.{length}
 use Rattle.model.proofs.Tests.{either, never}
@@ -14,11 +14,11 @@ use Rattle.queue.specs.Contracts.{Popped}
 use Rattle.queue.proofs.Keys.{occ-some}
 use Rattle.merge.specs.declared.Pair.{Pair}
 use Rattle.merge.specs.Rule.{none, best}
-use Rattle.merge.specs.Links.{Chain, Cuts}
+use Rattle.merge.specs.Links.{Cuts}
 use Rattle.merge.specs.Keys.{code, pairOf}
 use Rattle.merge.specs.Pairs.{admitted, saving, Seeds}
-use Rattle.merge.specs.Tables.{base, records, waiting, next, isLive}
-use Rattle.merge.specs.Contracts.{Ready, Joining, Taken, cutsOf, offersOf, Merged}
+use Rattle.merge.specs.Tables.{base, records, waiting, isLive}
+use Rattle.merge.specs.Contracts.{Ready, Taken, cutsOf, offersOf, Merged}
 use Rattle.merge.proofs.Joins.{join-end, later-end}
 use Rattle.merge.proofs.Queue.{Offer, best-none}
 use Rattle.merge.proofs.Adds.{Has, popped-in}

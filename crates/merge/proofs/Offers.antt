@@ -1,19 +1,18 @@
 -- How many offers there are: at most 3(n - 1) for n seeds.
 -- Assumes nothing.
-use mathlib.Core.Path.{_≡_, refl, sym, ap, _∙_}
+use mathlib.Core.Path.{_≡_, refl}
 use mathlib.Core.Logic.{⊎-elim}
 use mathlib.Core.List.{List, [], _∷_}
 use mathlib.Core.Bool.{Bool, true, false}
-use Prim.Native.Nat.{ℕ, zero, suc, _+_, _*_, _-_, _<_, _≤_}
+use Prim.Native.Nat.{ℕ, zero, suc, _*_, _-_, _<_, _≤_}
 use native.Mathlib.Nat.{le-refl}
 use native.Mathlib.Omega.{arith}
-use lib.Dec.{eqb}
 use lib.ListN.{length}
 use borrow.Author.Tests.{ne-eqb}
 use Rattle.model.specs.Tests.{both, pick}
 use Rattle.model.specs.Lists.{Rising, more}
-use Rattle.model.proofs.Tests.{same-or-not, order}
-use Rattle.merge.specs.Rule.{none, pair, without, cutsFrom, oneIf, contains, pairs, pairsWith, best, laterOffers, offers}
+use Rattle.model.proofs.Tests.{same-or-not}
+use Rattle.merge.specs.Rule.{without, cutsFrom, oneIf, contains, pairs, pairsWith, best, laterOffers, offers}
 use Rattle.merge.proofs.Cuts.{meet-middle, meet-three, rising-without, length-without, cuts-rising, cuts-length}
 use Rattle.merge.proofs.Joins.{by-choice, best-meets, later-step, later-end}
 

@@ -1,19 +1,19 @@
 -- The queue with stale offers answers as the plain rule does: its largest key that is not stale is the best pair.
 -- `has k` says that the key k is in the queue.
 -- Assumes nothing.
-use mathlib.Core.Path.{_≡_, refl, sym, ap, subst, _∙_}
-use mathlib.Core.Logic.{_⊎_, ⊎-elim, inl, inr}
-use mathlib.Core.List.{List, [], _∷_}
-use mathlib.Core.Bool.{Bool, true, false}
-use Prim.Native.Nat.{ℕ, suc, _+_, _*_, _-_, _<_, _≤_}
+use mathlib.Core.Path.{_≡_, refl, sym, ap, _∙_}
+use mathlib.Core.Logic.{⊎-elim}
+use mathlib.Core.List.{List}
+use mathlib.Core.Bool.{Bool, true}
+use Prim.Native.Nat.{ℕ, suc, _<_, _≤_}
 use native.Mathlib.Omega.{arith}
 use Rattle.model.specs.Lists.{Rising}
 use Rattle.model.proofs.Tests.{same-or-not, never}
-use Rattle.merge.specs.Rule.{Choice, none, pair, without, best}
+use Rattle.merge.specs.Rule.{none, pair, without, best}
 use Rattle.merge.specs.Links.{Cuts}
 use Rattle.merge.specs.Keys.{code}
 use Rattle.merge.proofs.Cuts.{Meet, meet-order}
-use Rattle.merge.proofs.Best.{Best, Chosen, chosen}
+use Rattle.merge.proofs.Best.{Best, chosen}
 use Rattle.merge.proofs.Joins.{by-choice, best-meets}
 use Rattle.merge.proofs.Links.{Linked, Joined, chain-next, next-meets, linked-join}
 

@@ -1,19 +1,18 @@
 -- From rows to segments: where the rows between cuts are known, the statistics of a segment are those of its rows.
 -- Assumes nothing.
-use mathlib.Core.Path.{_≡_, refl, sym, ap, _∙_}
+use mathlib.Core.Path.{_≡_, sym, _∙_}
 use mathlib.Core.Logic.{⊎-elim}
 use mathlib.Core.List.{List, [], _∷_, _++_}
-use mathlib.Core.Bool.{Bool}
 use Prim.Native.Nat.{ℕ, zero, suc, _+_, _-_, _<_, _≤_}
 use native.Mathlib.Omega.{arith}
 use lib.ListN.{length}
 use Rattle.model.specs.Lists.{Rising, none, more}
 use Rattle.model.proofs.Tests.{same-or-not}
 use Rattle.cost.specs.declared.Stats.{Stats}
-use Rattle.cost.specs.Statistics.{statsOf, joined}
+use Rattle.cost.specs.Statistics.{statsOf}
 use Rattle.cost.proofs.Joining.{stats-append, stats-sound, stats-neighbours}
 use Rattle.merge.specs.Rule.{merged, offers, cutsFrom}
-use Rattle.merge.specs.Pairs.{admits, saves, totalFrom, segmentOf, admitted, saving, Seeds, rowsAdmitted, rowsSaving}
+use Rattle.merge.specs.Pairs.{totalFrom, segmentOf, admitted, saving, Seeds, rowsAdmitted, rowsSaving}
 use Rattle.merge.specs.Contracts.{cutsOf, offersOf}
 use Rattle.merge.proofs.Same.{merged-same, offers-same}
 

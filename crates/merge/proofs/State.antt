@@ -1,26 +1,24 @@
 -- What the merging loop keeps, over the records t and the queue h, and what it lets an offer ask.
 -- Assumes nothing.
-use mathlib.Core.Path.{_≡_, refl, sym, ap, subst, _∙_}
+use mathlib.Core.Path.{_≡_, refl, sym}
 use mathlib.Core.List.{List, _∷_}
-use mathlib.Core.Bool.{Bool, true, false}
-use Prim.Native.Nat.{ℕ, suc, _+_, _*_, _-_, _<_, _≤_}
+use mathlib.Core.Bool.{true}
+use Prim.Native.Nat.{ℕ, _+_, _*_, _-_, _<_, _≤_}
 use native.Mathlib.Omega.{arith}
 use lib.ListN.{length}
-use lib.Dec.{eqb}
 use borrow.Author.Tests.{eqb-true, eq-eqb}
-use Rattle.model.specs.Tests.{both}
-use Rattle.model.proofs.Tests.{both-left, both-right, both-true, both-first, both-second}
+use Rattle.model.proofs.Tests.{both-left, both-right, both-true}
 use Rattle.cost.specs.declared.Stats.{Stats}
-use Rattle.cost.specs.Statistics.{Neighbours, joined}
-use Rattle.queue.specs.Keys.{key, occ, Heap}
+use Rattle.cost.specs.Statistics.{joined}
+use Rattle.queue.specs.Keys.{Heap}
 use Rattle.merge.specs.Rule.{cutsFrom, afterJoins, laterOffers, merged, offers}
 use Rattle.merge.specs.Links.{Cuts}
 use Rattle.merge.specs.Pairs.{segmentOf, admitted, saving, Seeds}
 use Rattle.merge.specs.Tables.{base, next, prev, statAt, isLive}
-use Rattle.merge.specs.Contracts.{both-of, Left, Right, Ready}
+use Rattle.merge.specs.Contracts.{jointOf, Ready}
 use Rattle.merge.proofs.Cuts.{In, Meet, meet-left}
 use Rattle.merge.proofs.Links.{Linked, next-order, next-meets, linked-before}
-use Rattle.merge.proofs.Queue.{Offer, Waiting}
+use Rattle.merge.proofs.Queue.{Waiting}
 use Rattle.merge.proofs.Offers.{offers-most}
 use Rattle.merge.proofs.Adds.{Has}
 use Rattle.merge.proofs.Segments.{segment-join, segment-neighbours}
@@ -62,7 +60,7 @@ module _ {f : ℕ → Stats} {n : ℕ} {t h : List ℕ} {q taken : ℕ} (s : Sta
     pair-here = next-meets (s .links) p p′ (omega (arith, cu .lm)) (omega (arith, cu .mr))
 
     -- the joined segment's statistics
-    pub pair-stats : both-of t l m ≡ segmentOf f l r
+    pub pair-stats : jointOf t l m ≡ segmentOf f l r
     pair-stats = rw (s .stats l m p (omega (arith, cu .lm)), s .stats m r p′ (omega (arith, cu .mr))) (sym (segment-join seeds l m r (cu .lm) (cu .mr) (cu .rn)))
 
     pub ready : Ready n t l m r

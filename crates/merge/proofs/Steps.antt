@@ -1,6 +1,6 @@
 -- The steps of a join: what the offers after it ask, and that they get it.
 -- Assumes nothing.
-use mathlib.Core.Path.{_≡_, refl, sym, ap, subst, _∙_}
+use mathlib.Core.Path.{_≡_, ap, _∙_}
 use mathlib.Core.List.{List}
 use mathlib.Core.Bool.{Bool}
 use Prim.Native.Nat.{ℕ, _+_, _*_, _<_, _≤_}
@@ -11,7 +11,7 @@ use Rattle.cost.specs.Statistics.{Neighbours, joined}
 use Rattle.queue.specs.Keys.{Heap}
 use Rattle.merge.specs.Links.{Cuts}
 use Rattle.merge.specs.Tables.{base, records, waiting, field, next, prev, statAt, linked}
-use Rattle.merge.specs.Contracts.{Added, both-of, Left, Right, Ready, Joining, leftIs, leftKey, rightIs, rightKey}
+use Rattle.merge.specs.Contracts.{Added, jointOf, Left, Right, Ready}
 use Rattle.merge.proofs.Offers.{one-most}
 use Rattle.merge.proofs.Tables.{records-length, records-field, read-pair, linked-records, linked-waiting, linked-next, linked-prev, linked-stat, linked-stats}
 
@@ -31,13 +31,13 @@ right-reads n q l r z w b room h k e = ((record { lm = b .0; mr = omega (arith, 
 
 -- w₁ is w with the segments that meet at m joined
 pub record Linking (n l m r : ℕ) (w w₁ : List ℕ) : Type 0 where
-  pub tables : records n w₁ ≡ linked l m r (both-of (records n w) l m) (records n w)
+  pub tables : records n w₁ ≡ linked l m r (jointOf (records n w) l m) (records n w)
   pub queue : waiting n w₁ ≡ waiting n w
 
 pub linking : (n l m r : ℕ) (w w₁ : List ℕ) (a b s : Stats) → Cuts n l m r → a ≡ statAt w l → b ≡ statAt w m → s ≡ joined a b → w₁ ≡ linked l m r s w → Linking n l m r w w₁
 linking n l m r w w₁ a b s c ea eb es e =
     let p = read-pair n w l m r a b c ea eb in
-    let es′ : s ≡ both-of (records n w) l m = es ∙ rw (p .0, p .1) in
+    let es′ : s ≡ jointOf (records n w) l m = es ∙ rw (p .0, p .1) in
     record {
       tables = ap (records n) e ∙ linked-records n l m r s w (c .lm) (c .mr) (c .rn) ∙ rw es′;
       queue = ap (waiting n) e ∙ linked-waiting n l m r s w (c .lm) (c .mr) (c .rn);
@@ -45,7 +45,7 @@ linking n l m r w w₁ a b s c ea eb es e =
 
 module _ (n q l m r : ℕ) (w w₁ : List ℕ) (rd : Ready n (records n w) l m r) (n16 : n < 65536) (room : base n + (q * 2 + 3) < length w) (k : Linking n l m r w w₁) (same : length w₁ ≡ length w) where
   abbrev s : Stats
-  s = both-of (records n w) l m
+  s = jointOf (records n w) l m
 
   abbrev t₁ : List ℕ
   t₁ = linked l m r s (records n w)

@@ -1,11 +1,11 @@
 -- The records of cuts in the workspace: what is read after a write, and what a write leaves alone.
 -- Assumes nothing.
-use mathlib.Core.Path.{_≡_, refl, sym, ap, _∙_}
+use mathlib.Core.Path.{_≡_, sym, _∙_}
 use mathlib.Core.Bool.{Bool}
 use mathlib.Core.List.{List}
 use Prim.Native.Nat.{ℕ, _+_, _*_, _<_, _≤_}
 use native.Mathlib.Omega.{arith}
-use lib.ListN.{length, getD, set, take, drop, length-set, length-take, List·getD-eq-default}
+use lib.ListN.{length, take, length-set, length-take, List·getD-eq-default}
 use lib.Seq.{getD-set-same, getD-set-other, getD-take, take-set-lt, drop-set-lt, length-take-le}
 use Rattle.cost.specs.declared.Stats.{Stats}
 use Rattle.cost.specs.Statistics.{Neighbours}

@@ -1,10 +1,10 @@
 -- A turn of the merging loop: an offer is taken, and is stale or is the plain rule's choice.
 -- Assumes nothing.
-use mathlib.Core.Path.{_≡_, refl, sym, ap, subst, _∙_}
-use mathlib.Core.Logic.{_⊎_, ⊎-elim, inl, inr}
-use mathlib.Core.List.{List, [], _∷_}
-use mathlib.Core.Bool.{Bool, true, false}
-use Prim.Native.Nat.{ℕ, zero, suc, _+_, _*_, _-_, _<_, _≤_}
+use mathlib.Core.Path.{_≡_, refl, sym, ap, _∙_}
+use mathlib.Core.Logic.{⊎-elim}
+use mathlib.Core.List.{List, _∷_}
+use mathlib.Core.Bool.{true}
+use Prim.Native.Nat.{ℕ, suc, _+_, _*_, _-_, _<_, _≤_}
 use native.Mathlib.Omega.{arith}
 use lib.ListN.{length}
 use lib.Dec.{ltb}
@@ -12,21 +12,19 @@ use borrow.Author.Tests.{lt-ltb, le-ltb, ltb-true}
 use Rattle.model.specs.Tests.{both}
 use Rattle.model.proofs.Tests.{order, same-or-not, both-left, both-right, both-true, both-first}
 use Rattle.cost.specs.declared.Stats.{Stats}
-use Rattle.queue.specs.Keys.{key, occ, Heap}
 use Rattle.queue.specs.Contracts.{Popped}
 use Rattle.merge.specs.Rule.{pair, oneIf, without, best, pairsWith, afterJoins, laterOffers}
-use Rattle.merge.specs.Links.{Cuts}
 use Rattle.merge.specs.Keys.{code}
-use Rattle.merge.specs.Pairs.{admits, saves, segmentOf, admitted, saving, Seeds}
-use Rattle.merge.specs.Tables.{base, records, waiting, next, prev, statAt, linked}
-use Rattle.merge.specs.Contracts.{Added, both-of, pairIs, pairKey, leftIs, leftKey, rightIs, rightKey, Joining}
+use Rattle.merge.specs.Pairs.{segmentOf, admitted, saving, Seeds}
+use Rattle.merge.specs.Tables.{records, waiting, next, prev, statAt, linked}
+use Rattle.merge.specs.Contracts.{Added, jointOf, leftIs, leftKey, rightIs, rightKey, Joining}
 use Rattle.merge.proofs.Cuts.{Meet, In, meet-left, meet-middle, meet-three, in-without, length-without, without-miss}
 use Rattle.merge.proofs.Joins.{join-step, later-step}
 use Rattle.merge.proofs.Links.{Linked, Joined, next-order, linked-before, linked-join}
 use Rattle.merge.proofs.Around.{around}
-use Rattle.merge.proofs.Queue.{Offer, Waiting, top-is-best, stale, after-join}
+use Rattle.merge.proofs.Queue.{Offer, top-is-best, stale, after-join}
 use Rattle.merge.proofs.Tables.{linked-length, linked-left, linked-gone, linked-next, linked-right, linked-prev, linked-stat, linked-stats}
-use Rattle.merge.proofs.Adds.{Has, added-as, added-kept, added-new, added-only, popped-in, popped-top, popped-old, popped-kept}
+use Rattle.merge.proofs.Adds.{Has, added-as, added-kept, added-new, added-only, popped-top, popped-old, popped-kept}
 use Rattle.merge.proofs.State.{State, pair-here, pair-stats}
 
 module _ {f : ℕ → Stats} {n : ℕ} {t h : List ℕ} {q taken k : ℕ} (n16 : n < 65536) (seeds : Seeds f n) (s : State f n t h q taken) (z : 0 < q) {h₁ : List ℕ} (p : Popped h q k h₁)
@@ -59,7 +57,7 @@ module _ {f : ℕ → Stats} {n : ℕ} {t h : List ℕ} {q taken k : ℕ} (n16 :
     r = o .r
 
     abbrev t′ : List ℕ
-    t′ = linked l m r (both-of t l m) t
+    t′ = linked l m r (jointOf t l m) t
 
     lm : l < m
     lm = o .cuts .lm
@@ -81,9 +79,9 @@ module _ {f : ℕ → Stats} {n : ℕ} {t h : List ℕ} {q taken k : ℕ} (n16 :
 
     joins : Joined (next t) (next t′) l m r
     joins = record {
-      left = linked-left l m r (both-of t l m) t lm mr long;
-      gone = linked-gone l m r (both-of t l m) t lm mr long;
-      else = linked-next l m r (both-of t l m) t lm mr long;
+      left = linked-left l m r (jointOf t l m) t lm mr long;
+      gone = linked-gone l m r (jointOf t l m) t lm mr long;
+      else = linked-next l m r (jointOf t l m) t lm mr long;
     }
 
     links′ : Linked n (next t′) (without m (s .cs))
@@ -94,11 +92,11 @@ module _ {f : ℕ → Stats} {n : ℕ} {t h : List ℕ} {q taken k : ℕ} (n16 :
     next-else a nl h = joins .else a nl (λ e. omega (arith, ap (next t′) e, joins .gone))
 
     prev-else : (b : ℕ) → (b ≡ r → ⊥) → prev t′ b ≡ prev t b
-    prev-else = linked-prev l m r (both-of t l m) t lm mr long
+    prev-else = linked-prev l m r (jointOf t l m) t lm mr long
 
     back′ : (a b : ℕ) → next t′ a ≡ b → 0 < b → prev t′ b ≡ a
     back′ a b e zb = ⊎-elim
-        (λ x. ap (prev t′) (sym e ∙ ap (next t′) x ∙ joins .left) ∙ linked-right l m r (both-of t l m) t lm mr long ∙ sym x)
+        (λ x. ap (prev t′) (sym e ∙ ap (next t′) x ∙ joins .left) ∙ linked-right l m r (jointOf t l m) t lm mr long ∙ sym x)
         (λ nl.
         let ea : next t a ≡ b = sym (next-else a nl (omega arith)) ∙ e in
         let nm : a ≡ m → ⊥ = λ x. omega (arith, ap (next t′) x, joins .gone) in
@@ -106,12 +104,12 @@ module _ {f : ℕ → Stats} {n : ℕ} {t h : List ℕ} {q taken k : ℕ} (n16 :
         (same-or-not a l)
 
     stat-joined : statAt t′ l ≡ segmentOf f l r
-    stat-joined = linked-stat l m r (both-of t l m) t lm mr long ∙ pair-stats s seeds l m r (o .cuts) p₁ p₂
+    stat-joined = linked-stat l m r (jointOf t l m) t lm mr long ∙ pair-stats s seeds l m r (o .cuts) p₁ p₂
 
     stats′ : (a b : ℕ) → next t′ a ≡ b → 0 < b → statAt t′ a ≡ segmentOf f a b
     stats′ a b e zb = ⊎-elim
         (λ x. let eb : b ≡ r = sym e ∙ ap (next t′) x ∙ joins .left in rw (x, eb) stat-joined)
-        (λ nl. linked-stats l m r (both-of t l m) t lm mr long a nl ∙ s .stats a b (sym (next-else a nl (omega arith)) ∙ e) zb)
+        (λ nl. linked-stats l m r (jointOf t l m) t lm mr long a nl ∙ s .stats a b (sym (next-else a nl (omega arith)) ∙ e) zb)
         (same-or-not a l)
 
     first′ : without m (s .cs) ≡ 0 ∷ without m (s .tail)
@@ -215,7 +213,7 @@ module _ {f : ℕ → Stats} {n : ℕ} {t h : List ℕ} {q taken k : ℕ} (n16 :
         tail = without m (s .tail);
         turns = s .turns - 1;
         first = first′;
-        long = linked-length l m r (both-of t l m) t lm mr long ∙ s .long;
+        long = linked-length l m r (jointOf t l m) t lm mr long ∙ s .long;
         links = links′;
         back = back′;
         stats = stats′;

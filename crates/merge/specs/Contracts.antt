@@ -49,8 +49,8 @@ abbrev pub rightKey : List ℕ → ℕ → ℕ → ℕ
 rightKey t l r = pairKey t l r (next t r)
 
 -- the statistics of two segments as one
-abbrev pub both-of : List ℕ → ℕ → ℕ → Stats
-both-of t l m = joined (statAt t l) (statAt t m)
+abbrev pub jointOf : List ℕ → ℕ → ℕ → Stats
+jointOf t l m = joined (statAt t l) (statAt t m)
 
 -- what the neighbours of the segment from l to r, with the statistics s, have to be
 pub record Left (t : List ℕ) (l : ℕ) (s : Stats) : Type 0 where
@@ -66,15 +66,15 @@ pub record Right (n : ℕ) (t : List ℕ) (r : ℕ) (s : Stats) : Type 0 where
 pub record Ready (n : ℕ) (t : List ℕ) (l m r : ℕ) : Type 0 where
   pub cuts : Cuts n l m r
   pub pair : Neighbours (statAt t l) (statAt t m)
-  pub left : 0 < l → Left t l (both-of t l m)
-  pub right : 0 < next t r → Right n t r (both-of t l m)
+  pub left : 0 < l → Left t l (jointOf t l m)
+  pub right : 0 < next t r → Right n t r (jointOf t l m)
 
 -- the segments that meet at m are joined, and the pairs that contain the joined segment are offered
 pub record Joining (n q l m r : ℕ) (w w′ : List ℕ) (c : ℕ) : Type 0 where
   pub linking : List ℕ
   pub halfway : List ℕ
   pub offered : ℕ
-  pub tables : records n linking ≡ linked l m r (both-of (records n w) l m) (records n w)
+  pub tables : records n linking ≡ linked l m r (jointOf (records n w) l m) (records n w)
   pub queue : waiting n linking ≡ waiting n w
   pub left : Added n q (leftIs (records n linking) l) (leftKey (records n linking) l r) linking halfway offered
   pub right : Added n offered (rightIs (records n halfway) l r) (rightKey (records n halfway) l r) halfway w′ c

@@ -3,7 +3,7 @@
 -- A pair of neighbouring segments is three neighbouring cuts l, m, r, and joining it takes the cut m out. So segments only ever grow
 -- together, and what lies between two cuts is never touched.
 -- Assumes nothing.
-use mathlib.Core.Bool.{Bool, true, false}
+use mathlib.Core.Bool.{Bool, true}
 use mathlib.Core.List.{List, [], _∷_}
 use Prim.Native.Nat.{ℕ, zero, suc, _+_}
 use lib.Dec.{eqb, leb}

@@ -3,15 +3,15 @@
 // and runs of the segment that starts here; two words are to spare.
 ghost use mathlib.Core.Path.{_≡_};
 ghost use mathlib.Core.Bool.{true};
-ghost use Prim.Native.Nat.{ℕ, _+_, _*_, _-_, _<_, _≤_};
+ghost use Prim.Native.Nat.{_+_, _*_, _-_, _<_, _≤_};
 ghost use lib.ListN.{length, replicate};
 ghost use Rattle.model.specs.Answers.{over};
-ghost use Rattle.cost.specs.Statistics.{Sound, Neighbours, joined};
+ghost use Rattle.cost.specs.Statistics.{Sound, Neighbours};
 ghost use Rattle.queue.specs.Keys.{Heap};
 ghost use Rattle.merge.specs.Keys.{code, pairOf};
 ghost use Rattle.merge.specs.Links.{Cuts};
 ghost use Rattle.merge.specs.Pairs.{lower, payload, admits, saves, Seeds};
-ghost use Rattle.merge.specs.Tables.{base, records, waiting, field, next, prev, statAt, isLive, put, putStat, linked};
+ghost use Rattle.merge.specs.Tables.{base, records, waiting, field, next, statAt, isLive, put, putStat, linked};
 ghost use Rattle.merge.specs.Contracts.{Added, pairIs, pairKey, leftIs, leftKey, rightIs, rightKey, Left, Right, Ready, Joining, Taken, Started, Offering, Merged, offersOf};
 
 // A pair of neighbouring segments: where the left one starts, where they meet, where the right one ends.

@@ -1,6 +1,6 @@
 -- `merge::admitted` meets its contract.
 -- Assumes nothing.
-use mathlib.Core.Path.{_≡_, refl, sym, ap, _∙_}
+use mathlib.Core.Path.{sym}
 use native.Mathlib.Omega.{arith}
 use Rattle.merge.proofs.Segments.{join-sound, admits-long, admits-by}
 use borrow.Author.Needs.{needs}
