@@ -10,7 +10,7 @@ use native.Mathlib.Omega.{arith}
 use lib.ListN.{length, getD, take, drop, length-append, List·getD-append}
 use lib.Seq.{getD-append-add}
 use Rattle.model.specs.Tests.{pick}
-use Rattle.model.specs.Lists.{Rising, none, more, below, has, placeOf, shift}
+use Rattle.model.specs.Lists.{Rising, none, more, below, has, placeOf, shift, lower}
 use Rattle.model.specs.declared.Place.{Place}
 use Rattle.model.proofs.Tests.{either, order, pick-true, pick-false, same-or-not}
 use Rattle.model.proofs.Standing.{below-under, below-past, below-none, below-whole, has-here, has-later, has-outside}
@@ -83,6 +83,28 @@ pub shift-rising : {a c : ℕ} {xs : List ℕ} (b : ℕ) → Rising a c xs → R
 unfolding shift
 shift-rising b none = none
 shift-rising {a} {c} b (more {x = x} l h r) = more {a = b + a} {b = b + c} {x = b + x} (omega arith) (omega arith) (rw (add-suc b x) at (shift-rising b r))
+
+pub lower-shift : (b : ℕ) (xs : List ℕ) → lower b (shift b xs) ≡ xs
+unfolding lower shift
+lower-shift b [] = refl
+lower-shift b (x ∷ xs) = let e : b + x - b ≡ x = omega arith in rw (e, lower-shift b xs)
+
+pub shift-lower : {a c : ℕ} {xs : List ℕ} (b : ℕ) → b ≤ a → Rising a c xs → shift b (lower b xs) ≡ xs
+unfolding lower shift
+shift-lower b h none = refl
+shift-lower b h (more {x = x} l q r) = let e : b + (x - b) ≡ x = omega arith in rw (e, shift-lower b (omega arith) r)
+
+pub length-lower : (b : ℕ) (xs : List ℕ) → length (lower b xs) ≡ length xs
+unfolding lower
+length-lower b [] = refl
+length-lower b (x ∷ xs) = ap suc (length-lower b xs)
+
+pub lower-rising : {a c : ℕ} {xs : List ℕ} (b : ℕ) → b ≤ a → Rising a c xs → Rising (a - b) (c - b) (lower b xs)
+unfolding lower
+lower-rising b h none = none
+lower-rising {a} {c} b h (more {x = x} l q r) =
+    let e : suc x - b ≡ suc (x - b) = omega arith in
+    more {a = a - b} {b = c - b} {x = x - b} (omega arith) (omega arith) (rw e at (lower-rising b (omega arith) r))
 
 pub shift-append : (b : ℕ) (xs ys : List ℕ) → shift b (xs ++ ys) ≡ shift b xs ++ shift b ys
 unfolding shift

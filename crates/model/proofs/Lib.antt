@@ -8,3 +8,4 @@ pub mod Writing
 pub mod Complement
 pub mod Runs
 pub mod Examples
+pub mod Counted

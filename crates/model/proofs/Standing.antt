@@ -71,6 +71,14 @@ has-inside (more {x = x} {xs = xs} l h r) p e =
 pub has-outside : {a b : ℕ} {xs : List ℕ} → Rising a b xs → (p : ℕ) → ((a ≤ p) × (p < b) → ⊥) → has xs p ≡ false
 has-outside {a} {b} {xs} r p h = ⊎-elim (λ e. absurd (h (has-inside r p e))) (λ e. e) (either (has xs p))
 
+pub place-before : {a b : ℕ} {xs : List ℕ} → Rising a b xs → (p : ℕ) → p < a → placeOf xs p ≡ record { below = 0; present = false }
+unfolding placeOf
+place-before r p h = rw (below-none r p (omega arith), has-outside r p (λ w. omega (arith, w .0)))
+
+pub place-after : {a b : ℕ} {xs : List ℕ} → Rising a b xs → (p : ℕ) → b ≤ p → placeOf xs p ≡ record { below = length xs; present = false }
+unfolding placeOf
+place-after r p h = rw (below-whole r p h, has-outside r p (λ w. omega (arith, w .1)))
+
 -- ---- place after select, select after place
 
 pub below-at : {a b : ℕ} {xs : List ℕ} → Rising a b xs → (k : ℕ) → k < length xs → below xs (getD xs k 0) ≡ k

@@ -7,7 +7,7 @@ use native.Mathlib.Nat.{mod-eq-of-lt, zero-add}
 use native.Mathlib.Omega.{arith}
 use lib.ListN.{length, getD, take, drop, set, length-append, length-drop}
 use lib.Seq.{drop-cons, set-at, drop-append-seam, take-append-seam, drop-drop}
-use Rattle.model.specs.Lists.{Rising, none, more, shift, moved}
+use Rattle.model.specs.Lists.{Rising, none, more, shift, moved, walkOf}
 use Rattle.model.specs.Answers.{over}
 
 -- ---- the 32-bit shift
@@ -28,6 +28,22 @@ moved-shift b h none = refl
 moved-shift b h (more {x = x} l q r) =
     let f : (b + x) % 4294967296 ≡ b + x = mod-eq-of-lt (omega arith) in
     rw (f, moved-shift b h r)
+
+pub moved-take : (b n : ℕ) (xs : List ℕ) → moved b (take n xs) ≡ take n (moved b xs)
+unfolding moved
+moved-take b zero xs = refl
+moved-take b (suc n) [] = refl
+moved-take b (suc n) (x ∷ xs) = rw (moved-take b n xs)
+
+pub moved-drop : (b n : ℕ) (xs : List ℕ) → moved b (drop n xs) ≡ drop n (moved b xs)
+unfolding moved
+moved-drop b zero xs = refl
+moved-drop b (suc n) [] = refl
+moved-drop b (suc n) (x ∷ xs) = moved-drop b n xs
+
+-- a walk of a list that does not pass 2^32, counted from b
+pub moved-walk : {a c : ℕ} {xs : List ℕ} (b : ℕ) → b + c ≤ 4294967296 → Rising a c xs → (k n : ℕ) → moved b (walkOf xs k n) ≡ walkOf (shift b xs) k n
+moved-walk {xs = xs} b h r k n = moved-take b n (drop k xs) ∙ ap (take n) (moved-drop b k xs ∙ ap (drop k) (moved-shift b h r))
 
 -- ---- the front written over
 

@@ -54,7 +54,12 @@ unfoldable pub shift : ℕ → List ℕ → List ℕ
 shift b [] = []
 shift b (x ∷ xs) = (b + x) ∷ shift b xs
 
--- the same in 32 bits, as a walk over any bytes writes it: where nothing passes 2^32 it is the shift
+-- a list counted from 0 anew, where it was counted from b
+unfoldable pub lower : ℕ → List ℕ → List ℕ
+lower b [] = []
+lower b (x ∷ xs) = (x - b) ∷ lower b xs
+
+-- the shift in 32 bits, as a walk over any bytes writes it: where nothing passes 2^32 it is the shift
 unfoldable pub moved : ℕ → List ℕ → List ℕ
 moved b [] = []
 moved b (x ∷ xs) = (b + x) % 4294967296 ∷ moved b xs

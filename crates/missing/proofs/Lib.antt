@@ -1,0 +1,4 @@
+pub mod Complement
+pub mod Laws
+pub mod Walking
+pub mod Examples

@@ -1,0 +1,47 @@
+-- The answers of a check: a test that failed, or all that passed and the one that is left. What an accepted count is.
+-- Assumes nothing.
+use mathlib.Core.Path.{_≡_, refl, sym, _∙_}
+use mathlib.Core.Bool.{Bool, true, false, _&&_}
+use Prim.Native.Nat.{ℕ, _<_, _≤_}
+use native.Mathlib.Omega.{arith}
+use lib.Dec.{leb}
+use borrow.Author.Tests.{le-leb, lt-leb, leb-true}
+use Rattle.model.specs.Tests.{both}
+use Rattle.model.proofs.Tests.{both-true, both-left, both-right, both-first, both-second}
+use Rattle.model.specs.Lists.{counted}
+
+-- a test that passed is left out
+pub both-pass : {a b r : Bool} → a ≡ true → r ≡ b → r ≡ both a b
+unfolding both
+both-pass p q = rw p q
+
+-- the code's conjunction
+pub and-both : (a b : Bool) → a && b ≡ both a b
+unfolding both
+and-both true b = refl
+and-both false b = refl
+
+-- what an accepted count is
+pub record Count (span n : ℕ) : Type 0 where
+  pub some : 1 ≤ n
+  pub within : n ≤ span
+  pub most : n ≤ 65535
+
+module _ (span n : ℕ) where
+  pub counted-none : n ≡ 0 → counted span n ≡ false
+  unfolding counted
+  counted-none e = both-first _ _ (lt-leb 1 n (omega arith))
+
+  pub counted-past : span < n → counted span n ≡ false
+  unfolding counted
+  counted-past h = both-second _ _ (both-first _ _ (lt-leb n span h))
+
+  pub counted-right : Count span n → counted span n ≡ true
+  unfolding counted
+  counted-right c = both-true _ _ (le-leb 1 n (c .some)) (both-true _ _ (le-leb n span (c .within)) (le-leb n 65535 (c .most)))
+
+  pub counted-count : counted span n ≡ true → Count span n
+  unfolding counted
+  counted-count ok =
+      let rest = both-right _ _ ok in
+      record { some = leb-true 1 n (both-left _ _ ok); within = leb-true n span (both-left _ _ rest); most = leb-true n 65535 (both-right _ _ rest) }

@@ -1,0 +1,41 @@
+//! A face of the original's deletion sets.
+
+use super::ordinal_deletion_set::{OrdinalDeletionSet, OrdinalDeletionSetRef};
+use super::original::{No, asserting};
+use crate::lwc::set_block_limit;
+
+/// A planned section: its tag, none where nothing is deleted, and its body.
+pub(crate) type Section = (Option<u8>, Vec<u8>);
+
+pub(crate) fn plan(row_count: u16, block_limit: usize, ordinals: &[u16]) -> Result<Section, No> {
+    set_block_limit(block_limit);
+    asserting(|| {
+        let set = OrdinalDeletionSet::from_ordinals(row_count, ordinals);
+        let set = set.map_err(|_| No::Capacity)?;
+        Ok((set.codec(), set.body().to_vec()))
+    })
+}
+
+/// Reads a section with deletions: the deleted ordinals, each of them found by `contains` and
+/// no other.
+pub(crate) fn read(
+    row_count: u16,
+    block_limit: usize,
+    stated_count: u16,
+    tag: u8,
+    body: &[u8],
+) -> Result<Vec<u16>, No> {
+    set_block_limit(block_limit);
+    let set =
+        OrdinalDeletionSetRef::validate(row_count, stated_count, tag, body).map_err(|report| {
+            match report.notes() {
+                [note] if note.ends_with("deletion bounds") => No::Bounds,
+                [note] if note.ends_with("cardinality mismatch") => No::Count,
+                _ => No::Payload,
+            }
+        })?;
+    let deleted: Vec<u16> = set.iter().collect();
+    let contained: Vec<u16> = (0..=u16::MAX).filter(|n| set.contains(*n)).collect();
+    assert_eq!(deleted, contained, "the original's own two answers");
+    Ok(deleted)
+}

@@ -1,0 +1,141 @@
+//! A face of the original: plain numbers in, plain numbers out.
+
+use super::identity_set::probe::{merge, seed_ends};
+use super::identity_set::{EncodedIdentitySet, IdentitySetRef, IdentitySetSeeds};
+use crate::case::{Case, Piece, Plan};
+use crate::id::RowID;
+use std::cell::Cell;
+use std::collections::pushes;
+use std::panic;
+
+/// How the original refuses, as far as it tells.
+#[derive(Clone, Copy, Debug, PartialEq, Eq)]
+pub(crate) enum No {
+    /// Its one error for what document 01 numbers 1, 2 and 6.
+    Capacity,
+    /// A failed assert: what document 01 numbers 3, 4 and, when deletions are planned, 9.
+    Assert,
+    /// A body that is not accepted, document 01's 8.
+    Payload,
+    /// Bounds of a deletion section, document 01's 9.
+    Bounds,
+    /// A stated count that differs, document 01's 10.
+    Count,
+}
+
+impl No {
+    /// Whether this is how the original gives document 01's refusal of that number.
+    pub(crate) fn is(self, number: u8) -> bool {
+        match self {
+            Self::Capacity => matches!(number, 1 | 2 | 6),
+            Self::Assert => matches!(number, 3 | 4 | 9),
+            Self::Payload => number == 8,
+            Self::Bounds => number == 9,
+            Self::Count => number == 10,
+        }
+    }
+}
+
+thread_local! {
+    static CATCHING: Cell<bool> = const { Cell::new(false) };
+}
+
+/// Makes panics silent that `asserting` catches. All others are told as before.
+pub(crate) fn hush_caught_panics() {
+    let tell = panic::take_hook();
+    panic::set_hook(Box::new(move |info| {
+        if !CATCHING.get() {
+            tell(info);
+        }
+    }));
+}
+
+/// Runs a call of the original that may fail one of its asserts.
+pub(crate) fn asserting<T>(call: impl FnOnce() -> Result<T, No>) -> Result<T, No> {
+    let outer = CATCHING.replace(true);
+    let caught = panic::catch_unwind(panic::AssertUnwindSafe(call));
+    CATCHING.set(outer);
+    caught.unwrap_or(Err(No::Assert))
+}
+
+pub(crate) fn row_ids(rows: &[u64]) -> Vec<RowID> {
+    rows.iter().map(|row| RowID(*row)).collect()
+}
+
+/// The original's gatherer.
+#[derive(Default)]
+pub(crate) struct Seeds(IdentitySetSeeds);
+
+impl Seeds {
+    pub(crate) fn gathered(case: &Case) -> Self {
+        let mut seeds = Self::default();
+        for (piece, rows) in case.pieces() {
+            match piece {
+                Piece::Page(_) => seeds.0.append_page(&row_ids(rows)),
+                Piece::Singly(_) => rows.iter().for_each(|row| seeds.0.append_row(RowID(*row))),
+            }
+        }
+        seeds
+    }
+
+    pub(crate) fn ends(&self) -> Vec<usize> {
+        seed_ends(&self.0)
+    }
+}
+
+/// Planning alone, for the benchmark: nothing but the original's own call.
+pub(crate) fn encode(case: &Case, rows: &[RowID], seeds: &Seeds) -> Option<EncodedIdentitySet> {
+    let (start, end) = (RowID(case.start), RowID(case.end));
+    EncodedIdentitySet::plan(start, end, rows, seeds.0.as_slice(), case.limit).ok()
+}
+
+/// Planning with all that is compared. Merging runs twice: the original's own call keeps its
+/// segments to itself.
+pub(crate) fn plan(case: &Case) -> Result<Plan, No> {
+    asserting(|| {
+        let rows = row_ids(&case.rows);
+        let seeds = Seeds::gathered(case);
+        let before = pushes();
+        let encoded = encode(case, &rows, &seeds).ok_or(No::Capacity)?;
+        let offers = pushes() - before;
+        let merged = merge(case.start, encoded.row_id_span(), &rows, &seeds.0);
+        assert_eq!(offers, merged.offers, "two runs of one merging");
+        Ok(Plan {
+            tag: encoded.codec(),
+            body: encoded.body().to_vec(),
+            segment_ends: merged.segment_ends,
+            offers,
+        })
+    })
+}
+
+/// A body that the original has accepted.
+#[derive(Clone, Copy)]
+pub(crate) struct Accepted<'a>(IdentitySetRef<'a>);
+
+impl<'a> Accepted<'a> {
+    #[inline]
+    pub(crate) fn new(tag: u8, span: u32, body: &'a [u8]) -> Option<Self> {
+        IdentitySetRef::validate(tag, body, span).ok().map(Self)
+    }
+
+    #[inline]
+    pub(crate) fn count(self) -> u16 {
+        self.0.row_count()
+    }
+
+    #[inline]
+    pub(crate) fn rank(self, position: u32) -> Option<u16> {
+        self.0.ordinal_for_delta(position)
+    }
+
+    #[inline]
+    pub(crate) fn select(self, ordinal: u16) -> Option<u32> {
+        self.0.delta_for_ordinal(ordinal)
+    }
+
+    #[inline]
+    pub(crate) fn positions(self) -> impl Iterator<Item = u32> + 'a {
+        self.0.iter_deltas()
+    }
+}

@@ -1,0 +1,25 @@
+//! A child of the original's module: only a child may read what is private there.
+
+use super::{IdentitySetPlan, IdentitySetSeeds};
+use crate::id::RowID;
+use std::collections::pushes;
+
+/// What merging came to: where each segment ends, counted in rows, and the offers made.
+pub(crate) struct Merged {
+    pub(crate) segment_ends: Vec<usize>,
+    pub(crate) offers: u64,
+}
+
+pub(crate) fn merge(start: u64, span: u32, rows: &[RowID], seeds: &IdentitySetSeeds) -> Merged {
+    let before = pushes();
+    let plan = IdentitySetPlan::new(rows, start, span, seeds.as_slice());
+    Merged {
+        segment_ends: plan.segments.iter().map(|s| s.seed.end).collect(),
+        offers: pushes() - before,
+    }
+}
+
+/// Where each seed ends, counted in rows: what Pelisafu keeps of a seed.
+pub(crate) fn seed_ends(seeds: &IdentitySetSeeds) -> Vec<usize> {
+    seeds.seeds.iter().map(|seed| seed.end).collect()
+}

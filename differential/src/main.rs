@@ -1,0 +1,51 @@
+//! The comparison with the Rust that Pelisafu is a port of. See docs/DIFFERENCES.md.
+
+extern crate counting_std as std;
+
+// The original finds its imports at the root of its crate, so the stand-ins stand here.
+#[path = "stand_ins/bit_width.rs"]
+mod bit_width;
+#[path = "stand_ins/error.rs"]
+mod error;
+#[path = "stand_ins/id.rs"]
+mod id;
+#[path = "stand_ins/lwc.rs"]
+mod lwc;
+
+mod bench;
+mod case;
+mod deletions;
+mod examples;
+mod index;
+mod merging;
+mod plain;
+mod random;
+mod reading;
+
+use std::process::ExitCode;
+
+const USAGE: &str = "differential examples|merging|reading|largest|deletions|bench";
+
+fn main() -> ExitCode {
+    index::original::hush_caught_panics();
+    let name = std::env::args().nth(1).unwrap_or_default();
+    let verdict = match name.as_str() {
+        "examples" => examples::compare(),
+        "merging" => merging::compare(),
+        "reading" => reading::compare(),
+        "largest" => reading::compare_largest(),
+        "deletions" => deletions::compare(),
+        "bench" => bench::table(),
+        _ => Err(format!("usage: {USAGE}")),
+    };
+    match verdict {
+        Ok(summary) => {
+            println!("{summary}");
+            ExitCode::SUCCESS
+        }
+        Err(difference) => {
+            eprintln!("{name}: {difference}");
+            ExitCode::FAILURE
+        }
+    }
+}

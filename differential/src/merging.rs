@@ -1,0 +1,137 @@
+//! Planning by the original against planning by the plain rule, over random seed tables:
+//! segments and offers, and with them seed ends, tag and body.
+
+use crate::case::{Case, Piece, Verdict};
+use crate::index::original::{self, Seeds};
+use crate::plain;
+use crate::random::{Random, SHAPES, SOURCES, case, gathered};
+
+/// Rounds over every shape from every source, and how many of them are large.
+const ROUNDS: usize = 1_000;
+const LARGE_EVERY: usize = 100;
+
+/// What the comparison has seen.
+#[derive(Default)]
+struct Tally {
+    cases: usize,
+    seeds: usize,
+    joins: usize,
+    offers: u64,
+    without_offers: usize,
+    refused: usize,
+    tags: [usize; 10],
+}
+
+pub(crate) fn compare() -> Verdict {
+    let mut random = Random::new(1);
+    let mut tally = Tally::default();
+    for round in 0..ROUNDS {
+        let most = if round % LARGE_EVERY == 0 { 4_000 } else { 150 };
+        for shape in SHAPES {
+            for source in SOURCES {
+                let count = 1 + random.below(most) as usize;
+                let case = case(&mut random, shape, count);
+                let case = gathered(&mut random, source, case);
+                compare_plan(&case, &mut tally)?;
+            }
+        }
+    }
+    for case in edge_cases() {
+        compare_plan(&case, &mut tally)?;
+    }
+    Ok(tally.summary())
+}
+
+/// One case: the original and the plain rule must give the same seeds and the same plan, or
+/// refuse alike.
+fn compare_plan(case: &Case, tally: &mut Tally) -> Result<(), String> {
+    let seeds = plain::merging::gather(case);
+    let gathered = Seeds::gathered(case).ends();
+    if !case.gathering.is_empty() && gathered != seeds {
+        return Err(format!("seed ends {gathered:?} and {seeds:?} of {case:?}"));
+    }
+    match (original::plan(case), plain::planning::plan(case)) {
+        (Ok(theirs), Ok(plain)) if theirs == plain => {
+            if plain.offers > 3 * (seeds.len() as u64 - 1) {
+                return Err(format!("{} offers of {case:?}", plain.offers));
+            }
+            tally.cases += 1;
+            tally.seeds += seeds.len();
+            tally.joins += seeds.len() - plain.segment_ends.len();
+            tally.offers += plain.offers;
+            tally.without_offers += usize::from(plain.offers == 0);
+            tally.tags[usize::from(plain.tag)] += 1;
+            Ok(())
+        }
+        (Err(no), Err(number)) if no.is(number) => {
+            tally.cases += 1;
+            tally.refused += 1;
+            Ok(())
+        }
+        (theirs, plain) => Err(format!("{theirs:?} and {plain:?} of {case:?}")),
+    }
+}
+
+/// Inputs on the bounds of planning that random rows do not meet.
+fn edge_cases() -> Vec<Case> {
+    let mut cases = bad_cases();
+    for end in [1, 65_535, 65_536, 65_537, 4_294_967_295] {
+        let (middle, last, many) = (end / 2, end - 1, end.min(65_535));
+        for first in [0, middle, last] {
+            let mut rows = vec![first, middle.max(first), last];
+            rows.dedup();
+            cases.push(Case::new(0, end, rows));
+        }
+        cases.push(Case::new(0, end, 0..many));
+        cases.push(Case::new(0, end, (0..many).step_by(2)));
+        cases.push(Case::new(0, end, end - many..end));
+    }
+    for size in [4, 15, 4_096, 65_535] {
+        cases.push(Case::new(7, 70_000, 7..65_542).in_pages_of(size));
+    }
+    cases
+}
+
+/// Inputs that are refused, and beside each the nearest that is not.
+fn bad_cases() -> Vec<Case> {
+    const TOP: u64 = u64::MAX;
+    let far_apart = |count| Case::new(0, 4_294_967_295, (0..count).map(|n| 200_000 * n));
+    let mut short_table = Case::new(0, 10, [3, 4, 5]);
+    short_table.gathering = vec![Piece::Page(2)];
+    vec![
+        Case::new(5, 4, [5]),
+        Case::new(5, 5, [5]),
+        Case::new(0, 4_294_967_296, [0]),
+        Case::new(0, 4_294_967_295, [4_294_967_294]),
+        Case::new(TOP - 4_294_967_295, TOP, [TOP - 65_536, TOP - 1]),
+        Case::new(0, 10, []),
+        Case::new(0, 70_000, 0..65_536),
+        Case::new(0, 70_000, 0..65_535),
+        Case::new(0, 10, [3, 3]),
+        Case::new(0, 10, [4, 3]),
+        Case::new(2, 10, [1, 3]),
+        Case::new(2, 10, [3, 10]),
+        short_table,
+        Case::new(0, 10, [3, 4, 5]).limited(5),
+        Case::new(0, 10, [3, 4, 5]).limited(6),
+        far_apart(16_384),
+        far_apart(16_383),
+    ]
+}
+
+impl Tally {
+    fn summary(&self) -> String {
+        let tags: Vec<String> = (1..10).map(|tag| self.tags[tag].to_string()).collect();
+        format!(
+            "merging: {} cases alike, {} refused alike, {} seeds, {} joins, {} offers, \
+             {} plans without an offer; tags 1 to 9: {}",
+            self.cases - self.refused,
+            self.refused,
+            self.seeds,
+            self.joins,
+            self.offers,
+            self.without_offers,
+            tags.join(" ")
+        )
+    }
+}

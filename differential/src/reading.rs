@@ -1,0 +1,126 @@
+//! Reading by the original against reading by the plain rule: which bodies are accepted, and
+//! on accepted ones count, list, ranks and selects.
+
+mod bodies;
+mod long;
+mod short;
+
+use crate::case::Verdict;
+use crate::index::original::{Accepted, asserting};
+use crate::plain;
+use crate::random::Random;
+
+/// One question to a reader.
+#[derive(Clone, Debug)]
+pub(crate) struct Reading {
+    pub(crate) tag: u8,
+    pub(crate) span: u32,
+    pub(crate) body: Vec<u8>,
+}
+
+#[derive(Default)]
+struct Tally {
+    accepted: [usize; 11],
+    refused: usize,
+    ranks: usize,
+}
+
+pub(crate) fn compare() -> Verdict {
+    let mut random = Random::new(2);
+    let mut tally = Tally::default();
+    let mut each = |reading: &Reading| compare_body(reading, &mut tally);
+    short::for_each(&mut each)?;
+    bodies::for_each(&mut |reading| {
+        each(reading)?;
+        bodies::damaged(&mut random, reading, &mut each)
+    })?;
+    long::all().iter().try_for_each(each)?;
+    let tags: Vec<String> = (1..10).map(|tag| tally.accepted[tag].to_string()).collect();
+    Ok(format!(
+        "reading: {} bodies accepted alike with {} ranks, {} refused alike; accepted by tags \
+         1 to 9: {}",
+        tally.accepted.iter().sum::<usize>(),
+        tally.ranks,
+        tally.refused,
+        tags.join(" ")
+    ))
+}
+
+/// The one body too large for every run.
+pub(crate) fn compare_largest() -> Verdict {
+    let largest = long::largest();
+    compare_body(&largest, &mut Tally::default())?;
+    Ok(format!("largest: a bitmap of {} bytes read alike", largest.body.len()))
+}
+
+fn compare_body(reading: &Reading, tally: &mut Tally) -> Result<(), String> {
+    let Reading { tag, span, body } = reading;
+    let told = |what: String| {
+        let shown: Vec<String> = body.iter().take(400).map(|b| format!("{b:02X}")).collect();
+        let (length, hex) = (body.len(), shown.join(" "));
+        format!("tag {tag}, span {span}, {length} bytes {hex}: {what}")
+    };
+    let plain = plain::reading::read(*tag, u64::from(*span), body);
+    let compared = asserting(|| {
+        let theirs = Accepted::new(*tag, *span, body);
+        Ok(match (theirs, &plain) {
+            (None, None) => Ok(None),
+            (Some(set), Some(list)) => compare_answers(set, list, *span).map(Some),
+            (theirs, _) => Err(format!("accepted by the original: {}", theirs.is_some())),
+        })
+    });
+    let compared = compared.unwrap_or_else(|no| Err(format!("{no:?}")));
+    match compared.map_err(told)? {
+        None => tally.refused += 1,
+        Some(ranks) => {
+            tally.accepted[usize::from(*tag)] += 1;
+            tally.ranks += ranks;
+        }
+    }
+    Ok(())
+}
+
+/// Every answer on an accepted body. Gives the number of ranks that were asked.
+fn compare_answers(set: Accepted, list: &[u64], span: u32) -> Result<usize, String> {
+    if usize::from(set.count()) != list.len() {
+        return Err(format!("count {}, not {}", set.count(), list.len()));
+    }
+    if !set.positions().map(u64::from).eq(list.iter().copied()) {
+        return Err(format!("walks other rows than {list:?}"));
+    }
+    let last = list.len() - 1;
+    for ordinal in (0..last).step_by(step(list)).chain([last, last + 1, 65_535]) {
+        let Ok(asked) = u16::try_from(ordinal) else {
+            continue;
+        };
+        let (found, right) = (set.select(asked).map(u64::from), list.get(ordinal).copied());
+        if found != right {
+            return Err(format!("select {ordinal} gives {found:?}, not {right:?}"));
+        }
+    }
+    let questions = questions(list, span);
+    for position in &questions {
+        let found = set.rank(*position).map(usize::from);
+        let right = list.binary_search(&u64::from(*position)).ok();
+        if found != right {
+            return Err(format!("rank {position} gives {found:?}, not {right:?}"));
+        }
+    }
+    Ok(questions.len())
+}
+
+/// Long lists are asked at about 2,000 rows, evenly spread; their walk is compared whole.
+fn step(list: &[u64]) -> usize {
+    1 + list.len() / 2_000
+}
+
+/// Positions worth asking for: the ends, rows and what stands beside them.
+fn questions(list: &[u64], span: u32) -> Vec<u32> {
+    let ends = [0, 1, span / 2, span - 1, span, span.saturating_add(1), u32::MAX];
+    let beside = |row: &u64| [row.wrapping_sub(1), *row, row + 1].map(|p| p as u32);
+    let rows = list.iter().step_by(step(list));
+    let mut questions: Vec<u32> = rows.flat_map(beside).chain(ends).collect();
+    questions.sort_unstable();
+    questions.dedup();
+    questions
+}
