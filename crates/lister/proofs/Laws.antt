@@ -21,7 +21,8 @@ use Rattle.lister.specs.Window.{wholeOf, stopsOf, Whole, Slid}
 whole-after : (have n : ℕ) → wholeOf (nextAfter have n) ≤ have + 4
 unfolding nextAfter wholeOf pick
 whole-after have n =
-    ⊎-elim (λ (e : sized n ≡ true). ⊎-elim (λ (l : ltb have n ≡ true). rw (e, l) (omega arith)) (λ (l : ltb have n ≡ false). rw (e, l) (omega (arith, ltb-false have n l))) (either (ltb have n)))
+    ⊎-elim (λ (e : sized n ≡ true).
+    ⊎-elim (λ (l : ltb have n ≡ true). rw (e, l) (omega arith)) (λ (l : ltb have n ≡ false). rw (e, l) (omega (arith, ltb-false have n l))) (either (ltb have n)))
     (λ (e : sized n ≡ false). rw e (omega arith))
     (either (sized n))
 
@@ -102,3 +103,9 @@ pub record All (held size first room lo hi at k total : ℕ) : Type 0 where
   pub fits : at ≤ room
   pub same : room ≡ first
   pub line : 128 ≤ room
+
+-- what a refill asks
+pub record Refillable (size lo hi : ℕ) : Type 0 where
+  pub ordered : lo ≤ hi
+  pub inside : hi ≤ size
+  pub room : hi - lo < size

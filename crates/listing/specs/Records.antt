@@ -1,6 +1,6 @@
 -- A record of the input, as document 01's 'The listing' has it: length u32 big-endian, then tag, span u32 big-endian, body.
 -- Assumes nothing.
-use mathlib.Core.Bool.{Bool}
+use mathlib.Core.Bool.{Bool, true, false}
 use mathlib.Core.List.{List}
 use Prim.Native.Nat.{ℕ, zero, suc, _+_, _-_, _*_}
 use lib.Dec.{eqb, ltb, leb}
@@ -10,7 +10,7 @@ use Rattle.model.specs.Answers.{Answer}
 use Rattle.rowset.specs.Validate.{validateOf}
 use Rattle.listing.specs.declared.records.Figures.{Figures}
 use Rattle.listing.specs.declared.records.Line.{Line}
-use Rattle.listing.specs.declared.records.Line.the-variants.{Listed, Refused, Broken}
+use Rattle.listing.specs.declared.records.Line.the-variants.{Listed, Refused, Broken, Version, End}
 use Rattle.listing.specs.declared.records.Next.{Next}
 use Rattle.listing.specs.declared.records.Next.the-variants as next
 
@@ -46,3 +46,11 @@ lineOf xs =
     let span = be 4 xs 1 in
     let body = drop 5 xs in
     pick (sized (length xs)) (answerLine tag span (length body) (validateOf tag span body)) Broken
+
+-- whether more lines follow
+unfoldable pub goesOn : Line → Bool
+goesOn (Listed f) = true
+goesOn Refused = true
+goesOn Broken = false
+goesOn Version = false
+goesOn End = false

@@ -4,7 +4,7 @@ use borrow.Author.Needs.{needs}
 use native.Mathlib.Omega.{arith}
 use Prim.Native.Nat.{_-_}
 use lib.ListN.{length}
-use Rattle.lister.proofs.Laws.{All, waits-part}
+use Rattle.lister.proofs.Laws.{All, Refillable, waits-part}
 use mathlib.Core.Path.{sym, _∙_}
 use Rattle.lister.proofs.list_all.Statement.{statement}
 use Rattle.lister.proofs.list_all.Tie as tie
@@ -14,6 +14,14 @@ Inv-loop buf₀ got out₀ waiting lo₀ hi₀ at₀ k₀ total₀ buf out lo hi
 
 abbrev μ-loop : tie.MeasureT-loop
 μ-loop buf₀ got out₀ waiting lo₀ hi₀ at₀ k₀ total₀ buf out lo hi at k total = 18446744073709551616 - total
+
+-- where a record waits for its bytes: what is at hand lies inside, and is less than the buffer
+waiting : (c : tie.Else1 Inv-loop μ-loop) → Refillable (length (c .before .before .before .before .before .before .before .before .before .before .before .loop .buf)) (c .before .before .before .before .before .before .before .list-some .result .lo) (c .before .before .before .before .before .before .before .before .before .before .before .loop .hi)
+waiting c =
+    let inv = c .before .before .before .before .before .before .before .before .before .before .before .loop .inv in
+    let listed = c .before .before .before .before .before .before .before .list-some .ensures in
+    let short = waits-part _ _ _ (inv .inside) (rw (c .before .before .next-in .ensures) at (sym (c .before .stops .ensures) ∙ c .if1 .left)) in
+    record { ordered = omega (arith, listed); inside = omega (arith, inv); room = omega (arith, short, inv) }
 
 pub list-all-spec : {M : Type 1} → statement M
 list-all-spec =
@@ -37,8 +45,7 @@ list-all-spec =
     (λ c. search needs)
     (λ c. search needs)
     (λ c. search needs)
-    (λ c κs. let waiting = waits-part _ _ _ (c .before .before .before .before .before .before .before .before .before .before .before .before .before .before .before .before .loop .inv .inside) (rw (c .before .before .before .before .before .before .before .next-in .ensures) at (sym (c .before .before .before .before .before .before .stops .ensures) ∙ c .before .before .before .before .before .if1 .left)) in
-    omega (arith, waiting, c .before .before .before .before .before .before .before .before .before .before .before .before .list-some .ensures, c .before .before .before .before .before .before .before .before .before .before .before .before .before .before .before .before .loop .inv))
+    (λ c κs. omega (arith, waiting (c .before .before .before .before .before)))
     (λ c. search needs)
     (λ c κs. search needs)
     (λ c κs. search needs)

@@ -30,6 +30,8 @@ line-of-spec =
     (λ c. search needs)
     (λ c κs. search needs)
     (λ c κs. search needs)
-    (λ c. let fits = sym (c .before .before .before .before .before .before .is-sized .ensures) ∙ c .before .before .before .before .before .if1 .taken in
-    rw (fits, length-drop, ← c .before .before .before .big32 .ensures) (c .answered .ensures ∙ ap (answerLine _ _ _) (c .before .validate .ensures ∙ ap (validateOf _ _) (rest-part 5 (c .before .before .before .before .before .before .before .before .args .b .now)))))
+    (λ c.
+    let fits = sym (c .before .before .before .before .before .before .is-sized .ensures) ∙ c .before .before .before .before .before .if1 .taken in
+    let body = rest-part 5 (c .before .before .before .before .before .before .before .before .args .b .now) in
+    rw (fits, length-drop, ← c .before .before .before .big32 .ensures) (c .answered .ensures ∙ ap (answerLine _ _ _) (c .before .validate .ensures ∙ ap (validateOf _ _) body)))
     (λ c. rw (sym (c .before .is-sized .ensures) ∙ c .if1 .left)))

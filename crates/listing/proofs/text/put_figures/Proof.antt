@@ -23,4 +23,9 @@ put-figures-spec =
     (λ c. search needs)
     (λ c κs. search needs)
     (λ c. search needs)
-    (λ c. rw append-nil (put-then (c .before .before .before .before .before .before .before .before .before .before .before .before .before .before .before .before .before .before .before .before .before .before .put-spaced .ensures) (put-then (c .before .before .before .before .before .before .before .before .before .before .before .before .before .before .before .before .before .put-spaced2 .ensures) (put-then (c .before .before .before .before .before .before .before .before .before .before .before .before .put-spaced3 .ensures) (put-then (c .before .before .before .before .before .before .before .put-spaced4 .ensures) (c .before .before .put-spaced5 .ensures)))))))
+    (λ c.
+    let tag = c .before .before .before .before .before .before .before .before .before .before .before .before .before .before .before .before .before .before .before .before .before .before .put-spaced .ensures in
+    let span = c .before .before .before .before .before .before .before .before .before .before .before .before .before .before .before .before .before .put-spaced2 .ensures in
+    let rows = c .before .before .before .before .before .before .before .before .before .before .before .before .put-spaced3 .ensures in
+    let holes = c .before .before .before .before .before .before .before .put-spaced4 .ensures in
+    rw append-nil (put-then tag (put-then span (put-then rows (put-then holes (c .before .before .put-spaced5 .ensures)))))))

@@ -17,4 +17,7 @@ put-last-spec =
     (λ c. search needs)
     (λ c κs. search needs)
     (λ c. search needs)
-    (λ c. put-wider (omega arith) (put-then (put-then (c .before .before .before .before .before .before .before .before .before .before .before .put-word .ensures) (c .before .before .before .before .before .before .before .put-decimal .ensures)) (c .before .before .put-word2 .ensures))))
+    (λ c.
+    let word = c .before .before .before .before .before .before .before .before .before .before .before .put-word .ensures in
+    let number = c .before .before .before .before .before .before .before .put-decimal .ensures in
+    put-wider (omega arith) (put-then (put-then word number) (c .before .before .put-word2 .ensures))))

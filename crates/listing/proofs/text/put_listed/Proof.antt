@@ -16,4 +16,7 @@ put-listed-spec =
     (λ c. search needs)
     (λ c κs. search needs)
     (λ c. search needs)
-    (λ c. put-then (put-then (c .before .before .before .before .before .before .before .before .before .before .before .put-decimal .ensures) (c .before .before .before .before .before .before .before .put-figures .ensures)) (c .before .before .put-word .ensures)))
+    (λ c.
+    let number = c .before .before .before .before .before .before .before .before .before .before .before .put-decimal .ensures in
+    let figures = c .before .before .before .before .before .before .before .put-figures .ensures in
+    put-then (put-then number figures) (c .before .before .put-word .ensures)))
