@@ -1,1 +1,2 @@
-pub mod Validate
+pub mod Bodies
+pub mod Calls
