@@ -1,26 +1,24 @@
 -- What document 01 demands of reading, of every tag: each accepted body names exactly one rising list, rank and select undo each
 -- other on it, and a walk is the selects in order.
 -- Assumes nothing.
-use mathlib.Core.Path.{_≡_, refl, sym, ap, _∙_}
-use mathlib.Core.Bool.{Bool, true}
+use mathlib.Core.Path.{_≡_, sym, ap, _∙_}
+use mathlib.Core.Bool.{true}
 use mathlib.Core.Logic.{⊎-elim}
 use mathlib.Core.List.{List, [], _∷_}
 use Prim.Native.Nat.{ℕ, _+_, _-_, _<_, _≤_, min}
 use native.Mathlib.Omega.{arith}
-use lib.ListN.{length, getD, take, drop, length-take, length-drop}
+use lib.ListN.{length, getD, drop, length-take, length-drop}
 use lib.Seq.{getD-take, getD-drop}
 use Rattle.fields.specs.Le.{Bytes}
-use Rattle.model.specs.Lists.{Rising, below, has, rankOf, selectOf, walkOf}
+use Rattle.model.specs.Lists.{Rising, below, has, walkOf}
 use Rattle.model.specs.Answers.{accepted}
 use Rattle.model.proofs.Tests.{same-or-not}
 use Rattle.model.proofs.Rising.{rising-wider}
 use Rattle.model.proofs.Standing.{select-is, rank-is, rank-select, select-rank}
-use Rattle.model.proofs.Counted.{Count}
 use Rattle.single.specs.Single.{viewOf, singleNames}
-use Rattle.single.proofs.Named.{Parts, single-parts, parts-count, whole-rising, whole-length}
-use Rattle.segmented.specs.Segmented.{segmentedNames}
+use Rattle.single.proofs.Laid.{one-body}
+use Rattle.single.proofs.Named.{single-parts, parts-count, whole-rising, whole-length}
 use Rattle.segmented.proofs.Named.{directory-of, segmented-rising, segmented-length}
-use Rattle.directory.proofs.Parts.{Directory}
 use Rattle.rowset.specs.Bodies.{accepts, names}
 use Rattle.rowset.specs.Calls.{rankAnswer, selectAnswer}
 use Rattle.rowset.proofs.Laws.{names-nine, names-other, nine, other, names-few}
@@ -81,3 +79,11 @@ module _ (tag span : ℕ) (xs : List ℕ) (ok : accepts tag span xs ≡ true) (b
       let left : k + i < length (names tag span xs) = omega arith in
       let same : getD (walkOf (names tag span xs) k room) i 0 ≡ getD (names tag span xs) (k + i) 0 = getD-take room (drop k (names tag span xs)) i 0 fits ∙ getD-drop k (names tag span xs) i 0 in
       sym (answers tag span xs ok (ap accepted (ap (λ (x : ℕ). x ∷ []) same ∙ sym (select-is (names tag span xs) (k + i) left))))
+
+-- ---- T2: no second accepted body of a tag and span names the list, a bitmap's plain and trimmed forms held apart. A segmented body
+-- states where its segments lie, so two of them may name one list
+
+pub no-second-body : (tag span : ℕ) (xs ys : List ℕ) → (tag ≡ 9 → ⊥) → accepts tag span xs ≡ true → accepts tag span ys ≡ true → Bytes xs → Bytes ys
+    → (tag ≡ 6 → viewOf tag span xs .trimmed ≡ viewOf tag span ys .trimmed) → names tag span xs ≡ names tag span ys → xs ≡ ys
+no-second-body tag span xs ys n ok ok′ b b′ flag e =
+    one-body tag span xs ys (other tag span xs ok n) (other tag span ys ok′ n) b b′ flag (sym (names-other tag span xs n) ∙ e ∙ names-other tag span ys n)
