@@ -10,6 +10,7 @@ const FILES: [&str; 2] = ["identity_set", "ordinal_deletion_set"];
 fn main() {
     println!("cargo::rerun-if-env-changed=DORADB_SRC");
     println!("cargo::rerun-if-changed=build.rs");
+    link_pelisafu();
     let package = PathBuf::from(env::var_os("CARGO_MANIFEST_DIR").expect("cargo sets it"));
     let out = PathBuf::from(env::var_os("OUT_DIR").expect("cargo sets it"));
     let sources = match env::var_os("DORADB_SRC") {
@@ -34,6 +35,24 @@ fn main() {
         );
     }
     fs::write(out.join("modules.rs"), modules).expect("the build folder takes files");
+}
+
+/// Links Pelisafu's static library where its path is given. Without it the comparison with
+/// Pelisafu's own code is left out.
+fn link_pelisafu() {
+    println!("cargo::rustc-check-cfg=cfg(pelisafu)");
+    println!("cargo::rerun-if-env-changed=PELISAFU_LIB");
+    let Some(library) = env::var_os("PELISAFU_LIB").map(PathBuf::from) else {
+        return;
+    };
+    let Some(folder) = library.parent().filter(|_| library.is_file()) else {
+        println!("cargo::error=there is no {}", library.display());
+        return;
+    };
+    println!("cargo::rerun-if-changed={}", library.display());
+    println!("cargo::rustc-link-search=native={}", folder.display());
+    println!("cargo::rustc-link-lib=static=pelisafu");
+    println!("cargo::rustc-cfg=pelisafu");
 }
 
 fn added_lines(package: &Path) -> String {

@@ -1,6 +1,9 @@
-//! Measures the original: planning, validating, ranking, selecting and walking, by tag. Inputs
-//! are made before the clock runs, and every answer goes into a black box.
+//! Measures the original: planning, validating, ranking, selecting and walking, by tag; and
+//! Pelisafu's reading calls beside it. Inputs are made before the clock runs, and every answer
+//! goes into a black box.
 
+#[cfg(pelisafu)]
+mod beside;
 mod clock;
 mod inputs;
 
@@ -19,6 +22,8 @@ pub(crate) fn table() -> Verdict {
     planning_table();
     merging_table();
     reading_table();
+    #[cfg(pelisafu)]
+    beside::table();
     Ok(format!("\nbench: each figure is the median of {SAMPLES} samples"))
 }
 

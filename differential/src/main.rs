@@ -18,13 +18,15 @@ mod deletions;
 mod examples;
 mod index;
 mod merging;
+#[cfg(pelisafu)]
+mod pelisafu;
 mod plain;
 mod random;
 mod reading;
 
 use std::process::ExitCode;
 
-const USAGE: &str = "differential examples|merging|reading|largest|deletions|bench";
+const USAGE: &str = "differential examples|merging|reading|largest|deletions|pelisafu|bench";
 
 fn main() -> ExitCode {
     index::original::hush_caught_panics();
@@ -35,6 +37,8 @@ fn main() -> ExitCode {
         "reading" => reading::compare(),
         "largest" => reading::compare_largest(),
         "deletions" => deletions::compare(),
+        #[cfg(pelisafu)]
+        "pelisafu" => pelisafu::compare(),
         "bench" => bench::table(),
         _ => Err(format!("usage: {USAGE}")),
     };

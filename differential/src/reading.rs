@@ -25,16 +25,32 @@ struct Tally {
     ranks: usize,
 }
 
-pub(crate) fn compare() -> Verdict {
+impl Reading {
+    /// A difference with the body that it was found on.
+    pub(crate) fn told(&self, what: &str) -> String {
+        let Self { tag, span, body } = self;
+        let shown: Vec<String> = body.iter().take(400).map(|b| format!("{b:02X}")).collect();
+        let (length, hex) = (body.len(), shown.join(" "));
+        format!("tag {tag}, span {span}, {length} bytes {hex}: {what}")
+    }
+}
+
+/// Every body that readers are compared on, the short ones first.
+pub(crate) fn for_each(
+    each: &mut impl FnMut(&Reading) -> Result<(), String>,
+) -> Result<(), String> {
     let mut random = Random::new(2);
-    let mut tally = Tally::default();
-    let mut each = |reading: &Reading| compare_body(reading, &mut tally);
-    short::for_each(&mut each)?;
+    short::for_each(each)?;
     bodies::for_each(&mut |reading| {
         each(reading)?;
-        bodies::damaged(&mut random, reading, &mut each)
+        bodies::damaged(&mut random, reading, each)
     })?;
-    long::all().iter().try_for_each(each)?;
+    long::all().iter().try_for_each(each)
+}
+
+pub(crate) fn compare() -> Verdict {
+    let mut tally = Tally::default();
+    for_each(&mut |reading| compare_body(reading, &mut tally))?;
     let tags: Vec<String> = (1..10).map(|tag| tally.accepted[tag].to_string()).collect();
     Ok(format!(
         "reading: {} bodies accepted alike with {} ranks, {} refused alike; accepted by tags \
@@ -55,11 +71,6 @@ pub(crate) fn compare_largest() -> Verdict {
 
 fn compare_body(reading: &Reading, tally: &mut Tally) -> Result<(), String> {
     let Reading { tag, span, body } = reading;
-    let told = |what: String| {
-        let shown: Vec<String> = body.iter().take(400).map(|b| format!("{b:02X}")).collect();
-        let (length, hex) = (body.len(), shown.join(" "));
-        format!("tag {tag}, span {span}, {length} bytes {hex}: {what}")
-    };
     let plain = plain::reading::read(*tag, u64::from(*span), body);
     let compared = asserting(|| {
         let theirs = Accepted::new(*tag, *span, body);
@@ -70,7 +81,7 @@ fn compare_body(reading: &Reading, tally: &mut Tally) -> Result<(), String> {
         })
     });
     let compared = compared.unwrap_or_else(|no| Err(format!("{no:?}")));
-    match compared.map_err(told)? {
+    match compared.map_err(|what| reading.told(&what))? {
         None => tally.refused += 1,
         Some(ranks) => {
             tally.accepted[usize::from(*tag)] += 1;
@@ -115,7 +126,7 @@ fn step(list: &[u64]) -> usize {
 }
 
 /// Positions worth asking for: the ends, rows and what stands beside them.
-fn questions(list: &[u64], span: u32) -> Vec<u32> {
+pub(crate) fn questions(list: &[u64], span: u32) -> Vec<u32> {
     let ends = [0, 1, span / 2, span - 1, span, span.saturating_add(1), u32::MAX];
     let beside = |row: &u64| [row.wrapping_sub(1), *row, row + 1].map(|p| p as u32);
     let rows = list.iter().step_by(step(list));

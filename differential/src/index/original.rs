@@ -1,5 +1,7 @@
 //! A face of the original: plain numbers in, plain numbers out.
 
+#[cfg(pelisafu)]
+use super::identity_set::probe::entries;
 use super::identity_set::probe::{merge, seed_ends};
 use super::identity_set::{EncodedIdentitySet, IdentitySetRef, IdentitySetSeeds};
 use crate::case::{Case, Piece, Plan};
@@ -137,5 +139,11 @@ impl<'a> Accepted<'a> {
     #[inline]
     pub(crate) fn positions(self) -> impl Iterator<Item = u32> + 'a {
         self.0.iter_deltas()
+    }
+
+    /// The entries of the directory, none where there is no directory.
+    #[cfg(pelisafu)]
+    pub(crate) fn entries(self) -> Vec<crate::pelisafu::calls::Entry> {
+        entries(self.0)
     }
 }

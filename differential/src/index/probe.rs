@@ -1,5 +1,7 @@
 //! A child of the original's module: only a child may read what is private there.
 
+#[cfg(pelisafu)]
+use super::{IdentitySetRef, SEGMENTED, read16};
 use super::{IdentitySetPlan, IdentitySetSeeds};
 use crate::id::RowID;
 use std::collections::pushes;
@@ -22,4 +24,17 @@ pub(crate) fn merge(start: u64, span: u32, rows: &[RowID], seeds: &IdentitySetSe
 /// Where each seed ends, counted in rows: what Pelisafu keeps of a seed.
 pub(crate) fn seed_ends(seeds: &IdentitySetSeeds) -> Vec<usize> {
     seeds.seeds.iter().map(|seed| seed.end).collect()
+}
+
+/// What the original reads in each entry of a directory: start, span, count, ordinal, offset, length and tag.
+#[cfg(pelisafu)]
+pub(crate) fn entries(set: IdentitySetRef) -> Vec<crate::pelisafu::calls::Entry> {
+    let entry = |i| {
+        let (start, ordinal, local) = set.segment(i);
+        let offset = local.body.as_ptr() as usize - set.body.as_ptr() as usize;
+        let (span, length) = (local.span as u16, local.body.len() as u16);
+        (start, span, local.count, ordinal, offset as u16, length, local.codec)
+    };
+    let count = if set.codec == SEGMENTED { read16(set.body, 2) } else { 0 };
+    (0..usize::from(count)).map(entry).collect()
 }

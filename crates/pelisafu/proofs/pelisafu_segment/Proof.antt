@@ -1,0 +1,14 @@
+-- `pelisafu::pelisafu_segment` meets its contract.
+-- Assumes nothing.
+use mathlib.Core.Path.{refl, _∙_}
+use borrow.Author.Needs.{needs}
+use Rattle.pelisafu.proofs.pelisafu_segment.Statement.{statement}
+use Rattle.pelisafu.proofs.pelisafu_segment.Tie as tie
+
+pub pelisafu-segment-spec : {M : Type 1} → statement M
+pelisafu-segment-spec =
+    tie.close
+    (tie.spec
+    (λ c κs. search needs)
+    (λ c κs. search needs)
+    (λ c. c .of-entry .ensures ∙ c .before .segment .ensures))

@@ -1,0 +1,14 @@
+-- `pelisafu::pelisafu_validate` meets its contract.
+-- Assumes nothing.
+use mathlib.Core.Path.{refl, _∙_}
+use borrow.Author.Needs.{needs}
+use Rattle.pelisafu.proofs.pelisafu_validate.Statement.{statement}
+use Rattle.pelisafu.proofs.pelisafu_validate.Tie as tie
+
+pub pelisafu-validate-spec : {M : Type 1} → statement M
+pelisafu-validate-spec =
+    tie.close
+    (tie.spec
+    (λ c κs. search needs)
+    (λ c κs. search needs)
+    (λ c. c .of-checked .ensures ∙ c .before .validate .ensures))

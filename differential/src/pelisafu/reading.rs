@@ -1,0 +1,167 @@
+//! Reading by Pelisafu against reading by the original, on every body of `reading`. Nothing is taken from the plain
+//! rule, but that many ranks answer 4,294,967,295 for nothing, which the original has no call for.
+
+use super::calls::Body;
+use crate::index::original::{Accepted, asserting};
+use crate::reading::{Reading, for_each, questions};
+
+/// What single calls may cost on one body. Each call checks the whole body again, so that long bodies are asked
+/// singly at fewer places; many ranks and the walk answer for all of them.
+const SINGLE_WORK: usize = 1 << 18;
+
+#[derive(Default)]
+struct Tally {
+    accepted: usize,
+    refused: usize,
+    ranks: usize,
+    selects: usize,
+    walks: usize,
+    entries: usize,
+}
+
+pub(super) fn compare() -> Result<String, String> {
+    let mut tally = Tally::default();
+    for_each(&mut |reading| compare_body(reading, &mut tally))?;
+    let Tally { accepted, refused, ranks, selects, walks, entries } = tally;
+    Ok(format!(
+        "{accepted} bodies accepted alike with {ranks} ranks, {selects} selects, {walks} walks and {entries} \
+         directory entries, {refused} refused alike by every call"
+    ))
+}
+
+fn compare_body(reading: &Reading, tally: &mut Tally) -> Result<(), String> {
+    let body = Body { tag: reading.tag, span: reading.span, bytes: &reading.body };
+    let compared = asserting(|| {
+        Ok(match Accepted::new(reading.tag, reading.span, &reading.body) {
+            None => compare_refused(body, tally),
+            Some(set) => Answers::new(set, body).compare(tally),
+        })
+    });
+    let compared = compared.unwrap_or_else(|no| Err(format!("{no:?}")));
+    compared.map_err(|what| reading.told(&what))
+}
+
+fn same<T: PartialEq + std::fmt::Debug>(what: &str, ours: T, right: T) -> Result<(), String> {
+    if ours == right { Ok(()) } else { Err(format!("{what} gives {ours:?}, not {right:?}")) }
+}
+
+/// A number for each place of an output, so that a stray write shows wherever it falls.
+fn canaries(length: usize) -> Vec<u32> {
+    (0..length as u32).map(|i| i.wrapping_mul(0x9E37_79B9) ^ 0xA5A5_0F0F).collect()
+}
+
+/// Every call refuses by number 8, before 7, and writes nothing.
+fn compare_refused(body: Body, tally: &mut Tally) -> Result<(), String> {
+    same("validate", body.validate(), Err(8))?;
+    for asked in [0, 1, 65_535] {
+        same("rank", body.rank(u32::from(asked)), Err(8))?;
+        same("select", body.select(asked), Err(8))?;
+        same("segment", body.segment(usize::from(asked)), Err(8))?;
+    }
+    for room in [0, 1, 5] {
+        let mut out = canaries(room);
+        same("walk", body.walk(0, &mut out), Err(8))?;
+        same("ranks", body.ranks(&[0, 1, 2], &mut out), Err(8))?;
+        same("the output after a refusal", out, canaries(room))?;
+    }
+    tally.refused += 1;
+    Ok(())
+}
+
+/// An accepted body with the original's answers about it.
+struct Answers<'a> {
+    set: Accepted<'a>,
+    body: Body<'a>,
+    list: Vec<u32>,
+    /// Each so many-th single question is asked.
+    every: usize,
+}
+
+impl<'a> Answers<'a> {
+    fn new(set: Accepted<'a>, body: Body<'a>) -> Self {
+        let list: Vec<u32> = set.positions().collect();
+        let cost = 1 + body.bytes.len() / 8;
+        Self { set, body, every: 1 + cost * list.len() / SINGLE_WORK, list }
+    }
+
+    fn compare(&self, tally: &mut Tally) -> Result<(), String> {
+        same("validate", self.body.validate(), Ok(Some(u64::from(self.set.count()))))?;
+        self.compare_ranks(tally)?;
+        self.compare_selects(tally)?;
+        self.compare_walks(tally)?;
+        self.compare_entries(tally)?;
+        tally.accepted += 1;
+        Ok(())
+    }
+
+    fn compare_ranks(&self, tally: &mut Tally) -> Result<(), String> {
+        let rows: Vec<u64> = self.list.iter().copied().map(u64::from).collect();
+        let asked = questions(&rows, self.body.span);
+        let right: Vec<Option<u16>> = asked.iter().map(|p| self.set.rank(*p)).collect();
+        for (position, right) in asked.iter().zip(&right).step_by(self.every) {
+            let ours = self.body.rank(*position);
+            same(&format!("rank {position}"), ours, Ok(right.map(u64::from)))?;
+        }
+        // Many ranks into an output with room to spare, an exact one, and one that is too short.
+        let mut expected = canaries(asked.len() + 3);
+        for (place, right) in expected.iter_mut().zip(&right) {
+            *place = right.map_or(u32::MAX, u32::from);
+        }
+        for spare in [3, 0] {
+            let mut out = canaries(asked.len() + spare);
+            same("ranks", self.body.ranks(&asked, &mut out), Ok(Some(asked.len() as u64)))?;
+            same("the output of ranks", &out[..], &expected[..asked.len() + spare])?;
+        }
+        let mut short = canaries(asked.len() - 1);
+        same("ranks into less", self.body.ranks(&asked, &mut short), Err(7))?;
+        same("the output of ranks into less", short, canaries(asked.len() - 1))?;
+        tally.ranks += 2 * asked.len() + asked.len().div_ceil(self.every);
+        Ok(())
+    }
+
+    fn compare_selects(&self, tally: &mut Tally) -> Result<(), String> {
+        let count = self.list.len();
+        let ends = [0, count - 1, count, count + 1, 65_535];
+        for ordinal in (0..count).step_by(self.every).chain(ends) {
+            let Ok(asked) = u16::try_from(ordinal) else {
+                continue;
+            };
+            let right = self.set.select(asked).map(u64::from);
+            same(&format!("select {ordinal}"), self.body.select(asked), Ok(right))?;
+            tally.selects += 1;
+        }
+        Ok(())
+    }
+
+    /// From the ends, the middle and beyond, into nothing, one place, some, just enough and more than enough.
+    fn compare_walks(&self, tally: &mut Tally) -> Result<(), String> {
+        let count = self.list.len();
+        for from in [0, 1, count / 2, count - 1, count, 65_535] {
+            let rest = self.list.get(from..).unwrap_or(&[]);
+            for room in [0, 1, rest.len() / 2, rest.len(), rest.len() + 5] {
+                let written = room.min(rest.len());
+                let mut expected = canaries(room);
+                expected[..written].copy_from_slice(&rest[..written]);
+                let mut out = canaries(room);
+                let ours = self.body.walk(from as u16, &mut out);
+                same(&format!("walk from {from} into {room}"), ours, Ok(Some(written as u64)))?;
+                same(&format!("the output of a walk from {from} into {room}"), out, expected)?;
+                tally.walks += 1;
+            }
+        }
+        Ok(())
+    }
+
+    fn compare_entries(&self, tally: &mut Tally) -> Result<(), String> {
+        let entries = self.set.entries();
+        let every = 1 + entries.len() * (1 + self.body.bytes.len() / 8) / SINGLE_WORK;
+        for (i, entry) in entries.iter().enumerate().step_by(every) {
+            same(&format!("segment {i}"), self.body.segment(i), Ok(Some(*entry)))?;
+            tally.entries += 1;
+        }
+        for past in [entries.len(), entries.len() + 1, usize::MAX] {
+            same(&format!("segment {past}"), self.body.segment(past), Ok(None))?;
+        }
+        Ok(())
+    }
+}
