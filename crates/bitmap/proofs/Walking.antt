@@ -9,13 +9,13 @@ use native.Mathlib.Omega.{arith}
 use lib.ListN.{length, getD, take, drop, set, length-set, length-drop, List·getD-append}
 use lib.Seq.{drop-cons, take-suc, take-all, take-nil, getD-drop, drop-append-le, length-take-le}
 use Rattle.fields.specs.Le.{Bytes}
-use Rattle.model.specs.Lists.{shift, moved}
+use Rattle.model.specs.Lists.{shift, moved, wordsOf}
 use Rattle.model.specs.Answers.{over, Walked}
 use Rattle.model.proofs.Append.{length-shift, getD-shift, shift-drop}
 use Rattle.model.proofs.Writing.{length-moved, moved-append, over-none, over-next}
 use Rattle.word.specs.Bits.{bitsFrom, bitsOf}
 use Rattle.word.proofs.Bits.{bits-zero, bits-moved}
-use Rattle.bitmap.specs.Body.{wordsOf, wordOf}
+use Rattle.bitmap.specs.Body.{wordOf}
 use Rattle.bitmap.specs.Reading.{from, bitmapRest, bitmapSelect, bitmapWalk, restOf, Spotted, Settled}
 use Rattle.bitmap.specs.declared.Spot.{Spot}
 use Rattle.bitmap.proofs.Words.{from-word}

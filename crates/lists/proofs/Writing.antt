@@ -7,7 +7,7 @@ use native.Mathlib.Nat.{zero-add}
 use native.Mathlib.Omega.{arith}
 use lib.ListN.{length, take, drop, set, length-append, length-take, length-drop, length-set}
 use lib.Seq.{sets, sets-eq, ext-getD, getD-take, getD-drop}
-use Rattle.fields.proofs.Laws.{sets-append}
+use Rattle.model.proofs.Sets.{sets-append}
 use Rattle.model.specs.Tests.{tabulate}
 use Rattle.model.specs.Lists.{range, moved, walkOf}
 use Rattle.model.specs.Answers.{over, Walked}

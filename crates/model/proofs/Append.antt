@@ -154,3 +154,10 @@ has-shift b (x ∷ xs) p =
 pub place-shift : (b : ℕ) (xs : List ℕ) (p : ℕ) → placeOf (shift b xs) (b + p) ≡ placeOf xs p
 unfolding placeOf
 place-shift b xs p = rw (below-shift, has-shift)
+
+-- asked by the position of the whole
+pub below-shifted : (b : ℕ) (xs : List ℕ) (p : ℕ) → b ≤ p → below (shift b xs) p ≡ below xs (p - b)
+below-shifted b xs p h = let e : b + (p - b) ≡ p = omega arith in rw e at (below-shift b xs (p - b))
+
+pub has-shifted : (b : ℕ) (xs : List ℕ) (p : ℕ) → b ≤ p → has (shift b xs) p ≡ has xs (p - b)
+has-shifted b xs p h = let e : b + (p - b) ≡ p = omega arith in rw e at (has-shift b xs (p - b))

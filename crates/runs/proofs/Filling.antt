@@ -8,7 +8,7 @@ use native.Mathlib.Numerals.{add-one}
 use native.Mathlib.Omega.{arith}
 use lib.ListN.{length, take, drop, set}
 use lib.Seq.{sets, drop-drop, drop-append-seam, take-nil}
-use Rattle.fields.proofs.Laws.{sets-append}
+use Rattle.model.proofs.Sets.{sets-append}
 use Rattle.model.specs.Lists.{range, moved}
 use Rattle.model.specs.Answers.{over, Walked}
 use Rattle.model.proofs.Ranges.{length-range, range-append}
