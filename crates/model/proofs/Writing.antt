@@ -128,5 +128,7 @@ module _ {base : ℕ} {rows before after : List ℕ} {done : ℕ} (f : Filled ba
   pub filled-full : length before ≤ done → Walked (moved base (take (length before) rows)) before after done
   filled-full h = let e : done ≡ length before = omega (arith, f .room) in walked-by (rw e)
 
-  pub filled-end : length rows ≤ done → Walked (moved base (take (length before) rows)) before after done
-  filled-end h = walked-by (take-all done rows h ∙ sym (take-all (length before) rows (omega (arith, f .room))))
+  pub filled-end : drop done rows ≡ [] → Walked (moved base (take (length before) rows)) before after done
+  filled-end e =
+      let n : length rows - done ≡ 0 = sym (length-drop done rows) ∙ ap length e in
+      walked-by (take-all done rows (omega arith) ∙ sym (take-all (length before) rows (omega (arith, f .room))))

@@ -9,9 +9,9 @@ use native.Mathlib.Omega.{arith}
 use lib.ListN.{length}
 use borrow.Author.Tests.{leb-true, eqb-true, le-leb, eq-eqb}
 use Rattle.model.specs.Tests.{total}
+use Rattle.model.proofs.Sums.{total-least}
 use Rattle.model.proofs.Counted.{Count, counted-count, counted-right, both-pass}
 use Rattle.model.proofs.Tests.{either, order, both-true, both-left, both-right, all-at, all-from}
-use Rattle.runs.proofs.General.{total-least}
 use Rattle.runs.specs.Runs.{strideOf, runCount, runStart, runSize, runBefore, least, fits, runFits, mostOf, runsStand, runsAccepts}
 
 -- ---- one run
