@@ -10,8 +10,9 @@ use native.Mathlib.Omega.{arith}
 use lib.ListN.{length, length-take, length-drop}
 use borrow.Author.Tests.{eqb-true}
 use Rattle.model.specs.Tests.{pick, total}
-use Rattle.model.proofs.Tests.{either, last-or-before, pick-false}
+use Rattle.model.proofs.Tests.{either, pick-false}
 use Rattle.model.proofs.Sums.{total-le, total-within}
+use Rattle.model.proofs.Windows.{windows-apart, windows-level}
 use Rattle.search.specs.Search.{upTo, Cut}
 use Rattle.search.proofs.Laws.{falls-level, at-most, above, find-cut}
 use Rattle.directory.specs.Directory.{statedCount, startAt, spanAt, countAt, ordinalAt, offsetAt, lengthAt, partOf, rowsBefore, directorySize, endBefore, isLocal, startsTo, ordinalsTo}
@@ -33,12 +34,10 @@ module _ {xs : List ℕ} {span n : ℕ} (d : Directory xs span n) where
   next-apart i h = d .fit (suc i) h .apart
 
   pub segments-apart : (i j : ℕ) → i < j → j < n → startAt xs i + spanAt xs i ≤ startAt xs j
-  segments-apart i zero l h = absurd (omega arith)
-  segments-apart i (suc j) l h =
-      ⊎-elim (λ q. rw q (next-apart j h)) (λ m. omega (arith, segments-apart i j m (omega arith), next-apart j h)) (last-or-before l)
+  segments-apart = windows-apart (startAt xs) (λ (i : ℕ). startAt xs i + spanAt xs i) n (λ i l. omega arith) next-apart
 
   pub starts-level : (i j : ℕ) → i ≤ j → j < n → startAt xs i ≤ startAt xs j
-  starts-level i j l h = ⊎-elim (λ q. rw q (omega arith)) (λ m. omega (arith, segments-apart i j m h)) (eq-or-lt-of-le l)
+  starts-level = windows-level (startAt xs) (λ (i : ℕ). startAt xs i + spanAt xs i) n (λ i l. omega arith) next-apart
 
   -- a position of a segment, counted from the start of the whole, fits 32 bits
   pub no-wrap : span ≤ 4294967295 → (i p : ℕ) → i < n → p < spanAt xs i → startAt xs i + p < 4294967296

@@ -8,7 +8,7 @@ use native.Mathlib.Nat.{add-zero}
 use native.Mathlib.Omega.{arith}
 use lib.ListN.{length, getD}
 use Rattle.model.specs.Tests.{flat}
-use Rattle.model.specs.Lists.{Rising, below, has, shift}
+use Rattle.model.specs.Lists.{Rising, below, has}
 use Rattle.model.proofs.Sums.{flat-total}
 use Rattle.model.proofs.Append.{length-shift, getD-shift, shift-rising, below-shifted, has-shifted}
 use Rattle.model.proofs.Pieces.{Pieces, pieces-rising, pieces-none, pieces-place, pieces-select}

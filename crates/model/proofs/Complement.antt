@@ -3,8 +3,8 @@
 use mathlib.Core.Path.{_≡_, refl, sym, ap, _∙_}
 use mathlib.Core.Bool.{Bool, true, false, not}
 use mathlib.Core.Logic.{_⊎_, ⊎-elim, inl, inr}
-use mathlib.Core.List.{List, [], _∷_, _++_}
-use Prim.Native.Nat.{ℕ, zero, suc, _+_, _-_, _<_, _≤_, min}
+use mathlib.Core.List.{List, _∷_, _++_}
+use Prim.Native.Nat.{ℕ, zero, suc, _+_, _-_, _<_, _≤_}
 use native.Mathlib.Nat.{add-zero}
 use native.Mathlib.Omega.{arith}
 use lib.ListN.{length, getD, drop, length-append}
@@ -12,7 +12,7 @@ use lib.Seq.{drop-append-le, drop-append-add}
 use Rattle.model.specs.Lists.{Rising, none, more, below, has, range, complement}
 use Rattle.model.proofs.Tests.{order, same-or-not, either, strictly}
 use Rattle.model.proofs.Rising.{rising-append, rising-wider, rising-room}
-use Rattle.model.proofs.Standing.{below-none, below-under, below-past, has-here, has-later, has-inside, has-outside, has-index, same-members, below-cut}
+use Rattle.model.proofs.Standing.{below-none, below-under, below-past, has-here, has-later, has-outside, has-index, same-members, below-cut}
 use Rattle.model.proofs.Append.{below-append, has-left, has-right}
 use Rattle.model.proofs.Ranges.{length-range, range-rising, range-drop, below-range, has-range}
 

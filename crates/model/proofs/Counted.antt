@@ -1,10 +1,9 @@
 -- The answers of a check: a test that failed, or all that passed and the one that is left. What an accepted count is.
 -- Assumes nothing.
-use mathlib.Core.Path.{_≡_, refl, sym, _∙_}
+use mathlib.Core.Path.{_≡_, refl}
 use mathlib.Core.Bool.{Bool, true, false, _&&_, _||_}
 use Prim.Native.Nat.{ℕ, _<_, _≤_}
 use native.Mathlib.Omega.{arith}
-use lib.Dec.{leb}
 use borrow.Author.Tests.{le-leb, lt-leb, leb-true}
 use Rattle.model.specs.Tests.{both, pick}
 use Rattle.model.proofs.Tests.{both-true, both-left, both-right, both-first, both-second}

@@ -1,6 +1,7 @@
 pub mod Tests
 pub mod Counted
 pub mod Sums
+pub mod Windows
 pub mod Rising
 pub mod Standing
 pub mod Append

@@ -1,19 +1,19 @@
 -- Ranges of positions: length, elements, place.
 -- Assumes nothing.
 use mathlib.Core.Path.{_≡_, refl, sym, ap, _∙_}
-use mathlib.Core.Bool.{Bool, true, false}
-use mathlib.Core.Logic.{_⊎_, ⊎-elim}
-use mathlib.Core.List.{List, [], _∷_, _++_}
+use mathlib.Core.Bool.{true}
+use mathlib.Core.Logic.{⊎-elim}
+use mathlib.Core.List.{List, _++_}
 use Prim.Native.Nat.{ℕ, zero, suc, _+_, _-_, _<_, _≤_, min}
 use native.Mathlib.Nat.{zero-add, add-zero, suc-add, add-suc}
 use native.Mathlib.Omega.{arith}
 use lib.Dec.{ltb}
-use lib.ListN.{length, getD, take, drop}
+use lib.ListN.{length, getD, drop}
 use borrow.Author.Tests.{lt-ltb, le-ltb}
 use Rattle.model.specs.Lists.{Rising, none, more, below, has, range, shift}
-use Rattle.model.proofs.Tests.{order, same-or-not}
-use Rattle.model.proofs.Rising.{rising-wider, rising-room}
-use Rattle.model.proofs.Standing.{below-under, below-past, below-none, has-here, has-later, has-outside, has-at, below-at}
+use Rattle.model.proofs.Tests.{order}
+use Rattle.model.proofs.Rising.{rising-room}
+use Rattle.model.proofs.Standing.{below-under, below-past, below-none, has-outside, has-at}
 
 pub length-range : (a n : ℕ) → length (range a n) ≡ n
 unfolding range

@@ -1,16 +1,14 @@
 -- Runs: the runs of a list spread to the list, and the runs of spread runs that stand apart are those runs.
 -- Assumes nothing.
 use mathlib.Core.Path.{_≡_, refl, sym, ap, ap₂, _∙_}
-use mathlib.Core.Bool.{Bool, true, false}
-use mathlib.Core.Logic.{_⊎_, ⊎-elim}
+use mathlib.Core.Logic.{⊎-elim}
 use mathlib.Core.List.{List, [], _∷_, _++_, append-nil, append-assoc}
 use Prim.Native.Nat.{ℕ, zero, suc, _+_, _-_, _<_, _≤_, min}
-use native.Mathlib.Nat.{suc-add, add-suc, add-zero, le-trans}
+use native.Mathlib.Nat.{le-trans}
 use native.Mathlib.Omega.{arith}
-use lib.Dec.{eqb}
 use lib.ListN.{length, getD, length-append}
 use borrow.Author.Tests.{eq-eqb, ne-eqb}
-use Rattle.model.specs.Tests.{pick, tabulate, flat, total}
+use Rattle.model.specs.Tests.{tabulate, flat, total}
 use Rattle.model.specs.Lists.{Rising, none, more, below, has, range, Run, run, spread, onto, runsOf, Apart, stop, next}
 use Rattle.model.proofs.Tests.{pick-true, pick-false, same-or-not, strictly}
 use Rattle.model.proofs.Sums.{total-front}

@@ -1,13 +1,12 @@
 -- The front of a list and what is left of it: of two lists one after the other, of a table, of a range.
 -- Assumes nothing.
-use mathlib.Core.Path.{_≡_, sym, ap, _∙_}
+use mathlib.Core.Path.{_≡_, sym, _∙_}
 use mathlib.Core.List.{List, [], _∷_, _++_}
-use Prim.Native.Nat.{ℕ, zero, suc, _+_, _-_, _<_, min}
+use Prim.Native.Nat.{ℕ, zero, suc, _+_, _-_, min}
 use native.Mathlib.Nat.{add-zero}
-use native.Mathlib.Numerals.{add-one}
 use native.Mathlib.Omega.{arith}
 use lib.ListN.{length, take, drop, length-take, length-drop}
-use lib.Seq.{ext-getD, getD-take, getD-drop, drop-drop}
+use lib.Seq.{ext-getD, getD-take, getD-drop, drop-drop, drop-append-seam}
 use Rattle.model.specs.Tests.{tabulate}
 use Rattle.model.specs.Lists.{range, walkOf}
 use Rattle.model.proofs.Tests.{length-tabulate, getD-tabulate, tabulate-same}
@@ -19,9 +18,9 @@ take-append zero us vs = let e : 0 - length us ≡ 0 = omega arith in rw e
 take-append (suc m) [] vs = let e : suc m - 0 ≡ suc m = omega arith in rw e
 take-append (suc m) (u ∷ us) vs = let e : suc m - suc (length us) ≡ m - length us = omega arith in rw (e, take-append m us vs)
 
--- the next of a list, by what is left of it
-pub drop-next : {A : Type 0} (xs t : List A) (n : ℕ) {x : A} → drop n xs ≡ x ∷ t → drop (n + 1) xs ≡ t
-drop-next xs t n e = rw (← drop-drop 1 n xs, e)
+-- what is left behind the next ones
+pub drop-past : {A : Type 0} (xs vs rest : List A) (n : ℕ) → drop n xs ≡ vs ++ rest → drop (n + length vs) xs ≡ rest
+drop-past xs vs rest n e = rw (← drop-drop (length vs) n xs, e) (drop-append-seam vs rest)
 
 -- ---- the walk of a table, and of a range
 

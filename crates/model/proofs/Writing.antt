@@ -118,17 +118,29 @@ module _ {base at : ℕ} {rows before after : List ℕ} {done : ℕ} (f : Filled
   pub filled-whole : length rows ≤ done → after ≡ sets before at (moved base rows)
   filled-whole h = rw (take-all done rows h) at (f .holds)
 
--- in front: the walk is done where there is no room left, or nothing to write
+-- ---- a walk
+
+-- the values ws were written from 0 on
+pub walked : (base : ℕ) (rows ws : List ℕ) {before out : List ℕ} {n : ℕ} → rows ≡ ws → out ≡ sets before 0 (moved base ws) → length ws ≡ n → n ≤ length before → Walked (moved base rows) before out n
+walked base rows ws {before} {out} {n} q e l h =
+    let size : length (moved base ws) ≡ n = length-moved base ws ∙ l in
+    rw q (record { written = e ∙ sets-front (moved base ws) before (omega arith); number = sym size })
+
 module _ {base : ℕ} {rows before after : List ℕ} {done : ℕ} (f : Filled base 0 rows before after done) where
-  walked-by : take done rows ≡ take (length before) rows → Walked (moved base (take (length before) rows)) before after done
-  walked-by e =
-      let n = written-length f in
-      rw (← e) (record { written = f .holds ∙ sets-front (moved base (take done rows)) before (omega (arith, f .room)); number = sym n })
+  -- nothing is left to write
+  pub filled-all : drop done rows ≡ [] → Walked (moved base rows) before after done
+  filled-all e =
+      let n : length rows - done ≡ 0 = sym (length-drop done rows) ∙ ap length e in
+      walked base rows rows refl (filled-whole f (omega arith)) (omega (arith, f .within)) (omega (arith, f .room))
 
-  pub filled-full : length before ≤ done → Walked (moved base (take (length before) rows)) before after done
-  filled-full h = let e : done ≡ length before = omega (arith, f .room) in walked-by (rw e)
-
+  -- of as many as fit
   pub filled-end : drop done rows ≡ [] → Walked (moved base (take (length before) rows)) before after done
   filled-end e =
       let n : length rows - done ≡ 0 = sym (length-drop done rows) ∙ ap length e in
-      walked-by (take-all done rows (omega arith) ∙ sym (take-all (length before) rows (omega (arith, f .room))))
+      rw (take-all (length before) rows (omega (arith, f .room))) (filled-all e)
+
+  -- or no room
+  pub filled-full : length before ≤ done → Walked (moved base (take (length before) rows)) before after done
+  filled-full h =
+      let e : length before ≡ done = omega (arith, f .room) in
+      walked base (take (length before) rows) (take done rows) (rw e) (f .holds) (length-take-le done rows (f .within)) (omega arith)

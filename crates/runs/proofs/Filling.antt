@@ -7,10 +7,11 @@ use native.Mathlib.Nat.{zero-add, add-zero}
 use native.Mathlib.Numerals.{add-one}
 use native.Mathlib.Omega.{arith}
 use lib.ListN.{length, take, drop}
-use lib.Seq.{sets, drop-drop, drop-append-seam, take-nil}
+use lib.Seq.{sets, take-nil}
 use Rattle.model.specs.Lists.{range, moved}
 use Rattle.model.specs.Answers.{over, Walked}
 use Rattle.model.proofs.Ranges.{length-range, range-append}
+use Rattle.model.proofs.Taking.{drop-past}
 use Rattle.model.proofs.Writing.{moved-range, Filled, filled-start, filled-length, filled-more, filled-end}
 use Rattle.runs.specs.Runs.{runStart, runSize, runBefore}
 use Rattle.runs.specs.Asked.{entryOf, beforeTo, runsFrom, runsRest, runsWalk}
@@ -68,7 +69,7 @@ module _ {w : ℕ} {xs : List ℕ} {n base : ℕ} {rows before after : List ℕ}
         let a = runStart w xs i + left in
         let t = filled-length (s .filled) in
         let k : r ≡ length (range a z) = omega (arith, size-is, length-range a z, s .filled .room, d) in
-        rw (← drop-drop r done rows, here l, k, drop-append-seam)
+        rw k (sym (drop-past rows (range a z) _ done (here l)))
 
   pub walking-end : n ≤ i → Walked (moved base (take (length before) rows)) before after done
   unfolding runsFrom

@@ -1,7 +1,7 @@
 -- On an accepted body of runs: what it names rises below the span and has count rows, and place, select and walk are those of that list.
 -- Assumes nothing.
-use mathlib.Core.Path.{_≡_, refl, sym, ap, _∙_}
-use mathlib.Core.Bool.{true, false}
+use mathlib.Core.Path.{_≡_, sym, ap, _∙_}
+use mathlib.Core.Bool.{false}
 use mathlib.Core.Logic.{_⊎_, ⊎-elim, inl, inr}
 use mathlib.Core.List.{List, [], _++_, append-assoc, append-nil}
 use Prim.Native.Nat.{ℕ, zero, suc, _+_, _-_, _%_, _<_, _≤_}
@@ -11,8 +11,8 @@ use lib.ListN.{length, getD, drop}
 use lib.Seq.{drop-append-add, drop-append-le}
 use Rattle.model.specs.Tests.{flat, total}
 use Rattle.model.specs.Lists.{Rising, below, placeOf, walkOf, range, moved}
-use Rattle.model.proofs.Tests.{last-or-before}
 use Rattle.model.proofs.Sums.{total-le, flat-total}
+use Rattle.model.proofs.Windows.{windows-apart, windows-level}
 use Rattle.model.proofs.Rising.{rising-wider}
 use Rattle.model.proofs.Ranges.{length-range, getD-range, range-rising, range-drop, below-range, has-past}
 use Rattle.model.proofs.Pieces.{Pieces, pieces-rising, pieces-none, pieces-place, pieces-select}
@@ -45,16 +45,15 @@ names-split w xs i (suc m) =
 
 module _ {w : ℕ} {xs : List ℕ} {span count n : ℕ} (p : Parts w xs span count n) where
   -- a run ends before the next starts
-  ends-before : (i j : ℕ) → i < j → j < n → runStart w xs i + runSize w xs i < runStart w xs j
+  next-free : (i : ℕ) → suc i < n → suc (runStart w xs i + runSize w xs i) ≤ runStart w xs (suc i)
   unfolding least
-  ends-before i zero l h = absurd (omega arith)
-  ends-before i (suc j) l h =
-      let step : runStart w xs j + runSize w xs j < runStart w xs (suc j) = p .fit (suc j) h .free in
-      ⊎-elim (λ (e : i ≡ j). rw e step) (λ (q : i < j). omega (arith, ends-before i j q (omega arith))) (last-or-before l)
+  next-free i h = p .fit (suc i) h .free
+
+  ends-before : (i j : ℕ) → i < j → j < n → runStart w xs i + runSize w xs i < runStart w xs j
+  ends-before = windows-apart (runStart w xs) (λ (i : ℕ). suc (runStart w xs i + runSize w xs i)) n (λ i l. omega arith) next-free
 
   starts-rise : (i j : ℕ) → i ≤ j → j < n → runStart w xs i ≤ runStart w xs j
-  starts-rise i j l h =
-      ⊎-elim (λ (e : i ≡ j). rw e (omega arith)) (λ (q : i < j). omega (arith, ends-before i j q h)) (native.Mathlib.Nat.eq-or-lt-of-le l)
+  starts-rise = windows-level (runStart w xs) (λ (i : ℕ). suc (runStart w xs i + runSize w xs i)) n (λ i l. omega arith) next-free
 
   before-rise : (i j : ℕ) → i ≤ j → j < n → runBefore w xs i ≤ runBefore w xs j
   before-rise i j l h = rw (p .fit i (omega arith) .exact, p .fit j h .exact) (total-le (runSize w xs) i j l)

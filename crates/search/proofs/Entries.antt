@@ -1,6 +1,6 @@
 -- Entries of a table: where they lie, that those of a table inside a slice are inside, and those behind the first.
 -- Assumes nothing.
-use mathlib.Core.Path.{_≡_, _∙_}
+use mathlib.Core.Path.{_≡_}
 use mathlib.Core.List.{List, _++_}
 use Prim.Native.Nat.{ℕ, suc, _+_, _*_, _<_, _≤_}
 use native.Mathlib.Nat.{zero-add, suc-mul, le-trans, mul-le-mul-right}

@@ -1,9 +1,9 @@
 -- What the search finds: over any test, and over a test that falls.
 -- Assumes nothing.
-use mathlib.Core.Path.{_≡_, refl, sym, ap, _∙_, subst}
+use mathlib.Core.Path.{_≡_, refl, sym, _∙_}
 use mathlib.Core.Bool.{Bool, true, false, cond}
 use mathlib.Core.Logic.{⊎-elim}
-use Prim.Native.Nat.{ℕ, zero, suc, _+_, _-_, _*_, _/_, _<_, _≤_}
+use Prim.Native.Nat.{ℕ, zero, suc, _+_, _-_, _<_, _≤_}
 use native.Mathlib.Nat.{eq-or-lt-of-le}
 use native.Mathlib.Omega.{arith}
 use lib.Dec.{leb}
@@ -201,11 +201,16 @@ module _ (t : ℕ → Bool) where
   pub searching-end : (n lo hi : ℕ) → Searching n lo hi → hi ≤ lo → lo ≡ find t 0 n
   searching-end n lo hi s g = sym (find-done lo hi g) ∙ s .same
 
--- ---- on any table, the field before the answer is one of the n, and it is at most the key
+-- ---- the answer of a call
+
+pub found-within : (t : ℕ → Bool) (n : ℕ) {found : ℕ} → found ≡ find t 0 n → found ≤ n
+found-within t n e = rw e (find-within t n)
+
+-- on any table, the field before the answer is one of the n, and it is at most the key
 
 module _ (f : ℕ → ℕ) (n key : ℕ) {found : ℕ} (e : found ≡ find (upTo false f key) 0 n) (s : found ≡ 0 → ⊥) where
   pub found-inside : found - 1 < n
-  found-inside = omega (arith, find-within (upTo false f key) n, s)
+  found-inside = omega (arith, found-within (upTo false f key) n e, s)
 
   pub found-hit : f (found - 1) ≤ key
   found-hit = at-most f key (found - 1) (rw e (find-hit (upTo false f key) n (omega (arith, s))))
