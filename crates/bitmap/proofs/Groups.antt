@@ -12,13 +12,13 @@ use lib.Pow.{shr-shr, shr-lt}
 use borrow.Author.Tests.{lt-ltb, eq-eqb, ne-eqb, ltb-true, eqb-true}
 use Rattle.fields.specs.Le.{Bytes, le}
 use Rattle.model.specs.Tests.{both, all}
-use Rattle.model.specs.Lists.{counted, wordsOf, groupsOf, bitmapLength}
+use Rattle.model.specs.Lists.{counted}
 use Rattle.model.proofs.Counted.{and-both, both-pass, Count, counted-right, counted-count}
 use Rattle.model.proofs.Tests.{all-step, all-at, all-from, both-left, both-right, both-true, both-first, both-second}
 use Rattle.search.specs.Search.{entry}
 use Rattle.word.specs.Bits.{bitsFrom}
 use Rattle.word.proofs.Numbers.{pow-test}
-use Rattle.bitmap.specs.Body.{number, wordOf, stated, before, bitmapNames, exact, bitmapAccepts}
+use Rattle.bitmap.specs.Body.{wordsOf, groupsOf, bitmapLength, number, wordOf, stated, before, bitmapNames, exact, bitmapAccepts}
 use Rattle.bitmap.specs.Reading.{Between}
 use Rattle.bitmap.proofs.Words.{number-lt, word, before-group, before-past}
 

@@ -13,14 +13,14 @@ use Rattle.fields.proofs.Laws.{length-digits, le-digits, digits-le}
 use Rattle.fields.proofs.Binary.{pow-bytes}
 use Rattle.fields.proofs.Tables.{le-first, le-second, table, table-length, table-at, pieces}
 use Rattle.model.specs.Tests.{flat}
-use Rattle.model.specs.Lists.{Rising, below, wordsOf, groupsOf, bitmapLength}
+use Rattle.model.specs.Lists.{Rising, below}
 use Rattle.model.proofs.Tests.{flat-same}
 use Rattle.model.proofs.Rising.{rising-wider, rising-room}
 use Rattle.model.proofs.Standing.{below-most}
 use Rattle.word.specs.Bits.{bitsFrom, numFrom}
 use Rattle.word.proofs.Places.{below-bits}
 use Rattle.word.proofs.Numbers.{num-bits, num-lt, bits-num}
-use Rattle.bitmap.specs.Body.{number, stated, before, bitmapNames, bitmapAccepts, bitmapLayout}
+use Rattle.bitmap.specs.Body.{wordsOf, groupsOf, bitmapLength, number, stated, before, bitmapNames, bitmapAccepts, bitmapLayout}
 use Rattle.bitmap.proofs.Words.{number-lt}
 use Rattle.bitmap.proofs.Groups.{stated-at, Parts, ok-parts, parts-ok}
 

@@ -13,8 +13,7 @@ use Rattle.model.specs.Tests.{pick}
 use Rattle.search.specs.Search.{upTo}
 use Rattle.search.proofs.Laws.{find-within}
 use Rattle.word.specs.Bits.{bitsFrom, bitsOf}
-use Rattle.model.specs.Lists.{wordsOf, groupsOf}
-use Rattle.bitmap.specs.Body.{number, wordOf, stated, before}
+use Rattle.bitmap.specs.Body.{wordsOf, groupsOf, number, wordOf, stated, before}
 use Rattle.bitmap.specs.Reading.{from, groupRows, groupFor, inGroup, bitmapRest, Spotted}
 use Rattle.bitmap.proofs.Words.{between, before-mono, before-word, before-past, before-group, from-cut}
 use Rattle.bitmap.proofs.Groups.{stated-at}

@@ -10,10 +10,10 @@ use lib.Pow.{shr-shr}
 use borrow.Author.Tests.{lt-ltb, le-ltb}
 use Rattle.fields.specs.Le.{Bytes, le}
 use Rattle.model.specs.Tests.{pick}
-use Rattle.model.specs.Lists.{has, wordsOf}
+use Rattle.model.specs.Lists.{has}
 use Rattle.word.specs.Bits.{bitsFrom, bitsOf}
 use Rattle.word.proofs.Places.{has-bits, digit-mod}
-use Rattle.bitmap.specs.Body.{number, wordOf, stated, before, bitmapNames}
+use Rattle.bitmap.specs.Body.{wordsOf, number, wordOf, stated, before, bitmapNames}
 use Rattle.bitmap.specs.Reading.{bitmapPlace, Between}
 use Rattle.bitmap.proofs.Words.{word, before-in}
 use Rattle.bitmap.proofs.Groups.{stated-at}

@@ -12,7 +12,7 @@ use lib.ListN.{length, getD, drop, drop-of-length-le}
 use lib.Seq.{drop-append-add, getD-drop}
 use borrow.Author.Tests.{lt-ltb, le-ltb, leb-true, leb-false}
 use Rattle.model.specs.Tests.{pick}
-use Rattle.model.specs.Lists.{Rising, below, has, placeOf, walkOf, moved, wordsOf, groupsOf, bitmapLength}
+use Rattle.model.specs.Lists.{Rising, below, has, placeOf, walkOf, moved}
 use Rattle.model.proofs.Tests.{order}
 use Rattle.model.proofs.Standing.{below-whole, has-outside}
 use Rattle.search.specs.Search.{find, upTo, allowed}
@@ -20,7 +20,7 @@ use Rattle.search.proofs.Laws.{find-hit, find-miss}
 use Rattle.word.specs.Bits.{bitsFrom}
 use Rattle.word.proofs.Bits.{bits-short}
 use Rattle.word.proofs.Places.{rising-places, below-bits}
-use Rattle.bitmap.specs.Body.{number, stated, before, bitmapNames, bitmapAccepts}
+use Rattle.bitmap.specs.Body.{wordsOf, groupsOf, bitmapLength, number, stated, before, bitmapNames, bitmapAccepts}
 use Rattle.bitmap.specs.Reading.{bitmapPlace, from, groupRows, groupFor, inGroup, bitmapRest, bitmapSelect, bitmapWalk}
 use Rattle.bitmap.proofs.Words.{names-cut, before-mono}
 use Rattle.bitmap.proofs.Groups.{Parts, ok-parts}

@@ -8,14 +8,14 @@ use native.Mathlib.Omega.{arith}
 use lib.ListN.{length, getD, take, drop, set, length-drop, List·getD-append}
 use lib.Seq.{take-nil, getD-drop, drop-append-le}
 use Rattle.fields.specs.Le.{Bytes}
-use Rattle.model.specs.Lists.{shift, moved, wordsOf}
+use Rattle.model.specs.Lists.{shift, moved}
 use Rattle.model.specs.Answers.{Walked}
 use Rattle.model.proofs.Append.{length-shift, getD-shift, shift-drop}
 use Rattle.model.proofs.Taking.{drop-past}
 use Rattle.model.proofs.Writing.{over-none, Filled, filled-start, filled-more, filled-end}
 use Rattle.word.specs.Bits.{bitsFrom, bitsOf}
 use Rattle.word.proofs.Bits.{bits-zero, bits-moved}
-use Rattle.bitmap.specs.Body.{wordOf}
+use Rattle.bitmap.specs.Body.{wordsOf, wordOf}
 use Rattle.bitmap.specs.Reading.{from, bitmapRest, bitmapSelect, bitmapWalk, restOf, Spotted, Settled}
 use Rattle.bitmap.specs.declared.Spot.{Spot}
 use Rattle.bitmap.proofs.Words.{from-word}

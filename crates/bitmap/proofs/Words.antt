@@ -13,8 +13,7 @@ use Rattle.fields.proofs.Binary.{le-lt, le-high, le-low}
 use Rattle.model.proofs.Tests.{order}
 use Rattle.word.specs.Bits.{bitsFrom, bitsOf}
 use Rattle.word.proofs.Bits.{bits-cat, bits-cut, bits-mod, bits-count, bits-short, bits-most}
-use Rattle.model.specs.Lists.{wordsOf, groupsOf}
-use Rattle.bitmap.specs.Body.{number, wordOf, before, bitmapNames}
+use Rattle.bitmap.specs.Body.{wordsOf, groupsOf, number, wordOf, before, bitmapNames}
 use Rattle.bitmap.specs.Reading.{from, restOf, Between}
 
 -- ---- on any list of numbers

@@ -3,14 +3,25 @@
 -- Assumes nothing.
 use mathlib.Core.Bool.{Bool}
 use mathlib.Core.List.{List, _++_}
-use Prim.Native.Nat.{ℕ, _+_, _*_, _^_}
+use Prim.Native.Nat.{ℕ, _+_, _*_, _/_, _^_}
 use lib.Dec.{ltb, eqb}
 use lib.ListN.{length}
 use Rattle.fields.specs.Le.{le, digits}
 use Rattle.model.specs.Tests.{both, all, flat}
-use Rattle.model.specs.Lists.{below, counted, wordsOf, groupsOf, bitmapLength}
+use Rattle.model.specs.Lists.{below, counted}
 use Rattle.search.specs.Search.{entry}
 use Rattle.word.specs.Bits.{bitsFrom, numFrom}
+
+-- ---- sizes
+
+abbrev pub wordsOf : ℕ → ℕ
+wordsOf s = (s + 63) / 64
+
+abbrev pub groupsOf : ℕ → ℕ
+groupsOf s = (wordsOf s + 3) / 4
+
+abbrev pub bitmapLength : ℕ → ℕ
+bitmapLength s = 2 * groupsOf s + 8 * wordsOf s
 
 -- ---- bytes to rows
 

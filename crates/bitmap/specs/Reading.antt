@@ -7,11 +7,11 @@ use Prim.Native.Nat.{ℕ, _+_, _-_, _*_, _/_, _^_, _<_, _≤_}
 use lib.Dec.{ltb}
 use lib.ListN.{length, getD, take, drop}
 use Rattle.model.specs.Tests.{pick}
-use Rattle.model.specs.Lists.{has, moved, wordsOf, groupsOf}
+use Rattle.model.specs.Lists.{has, moved}
 use Rattle.model.specs.declared.Place.{Place}
 use Rattle.search.specs.Search.{find, upTo}
 use Rattle.word.specs.Bits.{bitsFrom, bitsOf}
-use Rattle.bitmap.specs.Body.{number, wordOf, stated, before, bitmapNames}
+use Rattle.bitmap.specs.Body.{wordsOf, groupsOf, number, wordOf, stated, before, bitmapNames}
 use Rattle.bitmap.specs.declared.Spot.{Spot}
 
 -- ---- place: the rows that the position's group states, and those of the group below it

@@ -4,9 +4,9 @@ ghost use Prim.Native.Nat.{_+_, _-_, _*_, _^_, _<_, _≤_, min};
 ghost use lib.Dec.{ltb, eqb};
 ghost use lib.ListN.{length, take};
 ghost use Rattle.model.specs.Tests.{both, all};
-ghost use Rattle.model.specs.Lists.{moved, wordsOf, groupsOf, bitmapLength};
+ghost use Rattle.model.specs.Lists.{moved};
 ghost use Rattle.model.specs.Answers.{Walked};
-ghost use Rattle.bitmap.specs.Body.{number, wordOf, exact, bitmapNames, bitmapAccepts};
+ghost use Rattle.bitmap.specs.Body.{wordsOf, groupsOf, bitmapLength, number, wordOf, exact, bitmapNames, bitmapAccepts};
 ghost use Rattle.bitmap.specs.Reading.{bitmapPlace, bitmapSelect, bitmapWalk, groupFor, Between, Spotted, restOf, Settled};
 use model::Place;
 

@@ -2,7 +2,7 @@
 -- Assumes nothing.
 use mathlib.Core.Bool.{Bool, true, false}
 use mathlib.Core.List.{List, [], _∷_, _++_}
-use Prim.Native.Nat.{ℕ, zero, suc, _+_, _-_, _*_, _/_, _%_, _<_, _≤_}
+use Prim.Native.Nat.{ℕ, zero, suc, _+_, _-_, _%_, _<_, _≤_}
 use lib.Dec.{ltb, leb, eqb}
 use lib.ListN.{take, drop}
 use Rattle.model.specs.Tests.{both, pick}
@@ -95,14 +95,3 @@ runsOf (x ∷ xs) = onto x (runsOf xs)
 pub data Apart : ℕ → ℕ → List Run → Type 0 where
   stop : {a b : ℕ} → Apart a b []
   next : {a b : ℕ} {r : Run} {rs : List Run} → a ≤ r .start → 1 ≤ r .size → r .start + r .size ≤ b → Apart (suc (r .start + r .size)) b rs → Apart a b (r ∷ rs)
-
--- ---- the sizes of a bitmap of s positions: 64-bit words, groups of four words, and bytes
-
-abbrev pub wordsOf : ℕ → ℕ
-wordsOf s = (s + 63) / 64
-
-abbrev pub groupsOf : ℕ → ℕ
-groupsOf s = (wordsOf s + 3) / 4
-
-abbrev pub bitmapLength : ℕ → ℕ
-bitmapLength s = 2 * groupsOf s + 8 * wordsOf s
