@@ -27,6 +27,7 @@ test:
 
 bench:
 	differential/run bench
+	@if [ -x dist/lister ]; then tests/listing/bench; fi
 
 clean:
 	rm -rf target dist differential/target

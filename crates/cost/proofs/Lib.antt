@@ -7,3 +7,4 @@ pub mod Positions
 pub mod Examples
 pub mod Chosen
 pub mod Layouts
+pub mod Stated

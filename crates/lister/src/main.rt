@@ -2,7 +2,7 @@
 //
 // One pass, with two fixed buffers. `buf` holds the bytes that were read and not listed yet, at lo..hi; it is larger than any
 // record. `out` holds text that waits to be written, its first `at` bytes; it is written when little room is left, and before each
-// read, so that a reader of a pipe sees the line of every record that has come. A read that fails counts as the end of the input.
+// read but the first, so that a reader of a pipe sees the line of every record that has come. A read that fails counts as the end of the input.
 use libc::STDERR_FILENO;
 use libc::STDIN_FILENO;
 use libc::STDOUT_FILENO;
@@ -183,12 +183,12 @@ fn list_all(buf: &mut [u8], got: usize, out: &mut [u8], waiting: usize)
         let s = list_some(buf, lo, hi, out, at, k);
         let used = s.lo;
         k = s.k;
-        if stops(next_in(&buf[used..hi])) {
-            finish(out, s.at, Line::Broken, k);
-            return;
-        }
         if !(flush(out, s.at) & s.good) {
             fail();
+            return;
+        }
+        if stops(next_in(&buf[used..hi])) {
+            finish(out, 0, Line::Broken, k);
             return;
         }
         let more = refill(buf, used, hi);

@@ -13,7 +13,7 @@ use lib.Seq.{take-all, length-take-le}
 use borrow.Author.Tests.{leb-true, ltb-false}
 use Rattle.model.specs.Tests.{pick}
 use Rattle.model.proofs.Tests.{either, both-left, both-right}
-use Rattle.rowset.specs.Validate.{validateOf}
+use Rattle.rowset.specs.Calls.{validateOf}
 use Rattle.listing.specs.declared.records.Next.{Next}
 use Rattle.listing.specs.declared.records.Next.the-variants as next
 use Rattle.listing.specs.Records.{be, sized, nextAfter, nextOf, answerLine, lineOf, goesOn}

@@ -7,7 +7,7 @@ use lib.Dec.{eqb, ltb, leb}
 use lib.ListN.{length, getD, drop}
 use Rattle.model.specs.Tests.{both, pick}
 use Rattle.model.specs.Answers.{Answer}
-use Rattle.rowset.specs.Validate.{validateOf}
+use Rattle.rowset.specs.Calls.{validateOf}
 use Rattle.listing.specs.declared.records.Figures.{Figures}
 use Rattle.listing.specs.declared.records.Line.{Line}
 use Rattle.listing.specs.declared.records.Line.the-variants.{Listed, Refused, Broken, Version, End}

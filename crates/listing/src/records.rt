@@ -2,7 +2,7 @@
 ghost use mathlib.Core.Path.{_≡_};
 ghost use Prim.Native.Nat.{_+_, _*_, _≤_};
 ghost use lib.ListN.{length};
-ghost use Rattle.rowset.specs.Validate.{checkedOf};
+ghost use Rattle.rowset.specs.Calls.{checkedOf};
 ghost use Rattle.listing.specs.Records.{be, sized, nextAfter, nextOf, figuresOf, answerLine, lineOf};
 use rowset::Checked;
 use rowset::validate;

@@ -1,2 +1,4 @@
 pub mod Laws
 pub mod Asking
+pub mod Same
+pub mod Demands

@@ -3,9 +3,9 @@
 use borrow.Author.Needs.{needs}
 use native.Mathlib.Omega.{arith}
 use Prim.Native.Nat.{_-_}
+use mathlib.Core.Path.{sym, _∙_}
 use lib.ListN.{length}
 use Rattle.lister.proofs.Laws.{All, Refillable, waits-part}
-use mathlib.Core.Path.{sym, _∙_}
 use Rattle.lister.proofs.list_all.Statement.{statement}
 use Rattle.lister.proofs.list_all.Tie as tie
 
@@ -16,11 +16,11 @@ abbrev μ-loop : tie.MeasureT-loop
 μ-loop buf₀ got out₀ waiting lo₀ hi₀ at₀ k₀ total₀ buf out lo hi at k total = 18446744073709551616 - total
 
 -- where a record waits for its bytes: what is at hand lies inside, and is less than the buffer
-waiting : (c : tie.Else1 Inv-loop μ-loop) → Refillable (length (c .before .before .before .before .before .before .before .before .before .before .before .loop .buf)) (c .before .before .before .before .before .before .before .list-some .result .lo) (c .before .before .before .before .before .before .before .before .before .before .before .loop .hi)
+waiting : (c : tie.Else2 Inv-loop μ-loop) → Refillable (length (c .before .before .before .before .before .before .before .before .before .before .before .before .before .before .before .loop .buf)) (c .before .before .before .before .before .before .before .before .before .before .before .list-some .result .lo) (c .before .before .before .before .before .before .before .before .before .before .before .before .before .before .before .loop .hi)
 waiting c =
-    let inv = c .before .before .before .before .before .before .before .before .before .before .before .loop .inv in
-    let listed = c .before .before .before .before .before .before .before .list-some .ensures in
-    let short = waits-part _ _ _ (inv .inside) (rw (c .before .before .next-in .ensures) at (sym (c .before .stops .ensures) ∙ c .if1 .left)) in
+    let inv = c .before .before .before .before .before .before .before .before .before .before .before .before .before .before .before .loop .inv in
+    let listed = c .before .before .before .before .before .before .before .before .before .before .before .list-some .ensures in
+    let short = waits-part _ _ _ (inv .inside) (rw (c .before .before .next-in .ensures) at (sym (c .before .stops .ensures) ∙ c .if2 .left)) in
     record { ordered = omega (arith, listed); inside = omega (arith, inv); room = omega (arith, short, inv) }
 
 pub list-all-spec : {M : Type 1} → statement M
@@ -31,6 +31,11 @@ list-all-spec =
     μ-loop
     (λ c. search needs)
     (λ c κs. search needs)
+    (λ c κs. search needs)
+    (λ c κs. search needs)
+    (λ c. search needs)
+    (λ c. search needs)
+    (λ c. search needs)
     (λ c. search needs)
     (λ c. search needs)
     (λ c. search needs)
@@ -40,12 +45,7 @@ list-all-spec =
     (λ c. search needs)
     (λ c. search needs)
     (λ c. search needs)
-    (λ c κs. search needs)
-    (λ c κs. search needs)
-    (λ c. search needs)
-    (λ c. search needs)
-    (λ c. search needs)
-    (λ c κs. omega (arith, waiting (c .before .before .before .before .before)))
+    (λ c κs. omega (arith, waiting (c .before)))
     (λ c. search needs)
     (λ c κs. search needs)
     (λ c κs. search needs)

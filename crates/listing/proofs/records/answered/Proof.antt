@@ -4,7 +4,7 @@ use borrow.Author.Needs.{needs}
 use mathlib.Core.Path.{ap}
 use Rattle.listing.specs.declared.records.Line.the-variants.{Listed}
 use Rattle.model.specs.Tests.{pick}
-use Rattle.rowset.specs.Validate.{checkedOf}
+use Rattle.rowset.specs.Calls.{checkedOf}
 use Rattle.listing.specs.Records.{answerLine}
 use Rattle.listing.proofs.records.answered.Statement.{statement}
 use Rattle.listing.proofs.records.answered.Tie as tie

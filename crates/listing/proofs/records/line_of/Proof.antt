@@ -7,7 +7,7 @@ use native.Mathlib.Omega.{arith}
 use mathlib.Core.Path.{ap, sym, _∙_}
 use Rattle.listing.proofs.Sizes.{Sized, sized-bounds, rest-part}
 use lib.ListN.{length, length-drop}
-use Rattle.rowset.specs.Validate.{validateOf}
+use Rattle.rowset.specs.Calls.{validateOf}
 use Rattle.listing.proofs.records.line_of.Statement.{statement}
 use Rattle.listing.proofs.records.line_of.Tie as tie
 
