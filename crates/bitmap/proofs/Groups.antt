@@ -2,22 +2,22 @@
 -- Assumes nothing.
 use mathlib.Core.Path.{_≡_, refl, sym, _∙_, subst}
 use mathlib.Core.Bool.{Bool, true, false, _&&_}
-use mathlib.Core.Logic.{⊎-elim}
 use mathlib.Core.List.{List}
 use Prim.Native.Nat.{ℕ, _+_, _-_, _*_, _/_, _%_, _^_, _≤_, _<_, min}
-use native.Mathlib.Nat.{zero-add, mul-comm, one-mul, div-lt-iff-lt-mul, div-eq-of-lt, mod-eq-of-lt}
+use native.Mathlib.Nat.{zero-add, mul-comm, mod-eq-of-lt}
 use native.Mathlib.Omega.{arith}
 use lib.Dec.{ltb, eqb}
 use lib.ListN.{length}
-use lib.Pow.{pow-pos, shr-shr, shr-lt}
-use borrow.Author.Tests.{lt-ltb, le-ltb, eq-eqb, ne-eqb, ltb-true, eqb-true}
+use lib.Pow.{shr-shr, shr-lt}
+use borrow.Author.Tests.{lt-ltb, eq-eqb, ne-eqb, ltb-true, eqb-true}
 use Rattle.fields.specs.Le.{Bytes, le}
 use Rattle.model.specs.Tests.{both, all}
 use Rattle.model.specs.Lists.{counted}
 use Rattle.model.proofs.Counted.{and-both, both-pass, Count, counted-right, counted-count}
-use Rattle.model.proofs.Tests.{all-step, all-at, all-from, both-left, both-right, both-true, both-first, both-second, order, same-or-not}
+use Rattle.model.proofs.Tests.{all-step, all-at, all-from, both-left, both-right, both-true, both-first, both-second}
 use Rattle.search.specs.Search.{entry}
 use Rattle.word.specs.Bits.{bitsFrom}
+use Rattle.word.proofs.Numbers.{pow-test}
 use Rattle.bitmap.specs.Body.{wordsOf, groupsOf, bitmapLength, number, wordOf, stated, before, bitmapNames, exact, bitmapAccepts}
 use Rattle.bitmap.specs.Reading.{Between}
 use Rattle.bitmap.proofs.Words.{number-lt, word, before-group, before-past}
@@ -56,19 +56,6 @@ module _ (xs : List ℕ) (bytes : Bytes xs) (s : ℕ) where
       rw (and-both, c .flag, k, e)
 
 -- ---- bits past the span
-
-below-pow : (n k : ℕ) → n / 2 ^ k ≡ 0 → n < 2 ^ k
-below-pow n k e =
-    let h : n / 2 ^ k < 1 = omega arith in
-    rw (one-mul (2 ^ k)) at (div-lt-iff-lt-mul (pow-pos k) .0 h)
-
--- the same test of n and of what is above its k lowest digits
-pow-test : (n k : ℕ) → eqb (n / 2 ^ k) 0 ≡ ltb n (2 ^ k)
-pow-test n k =
-    ⊎-elim
-    (λ (e : n / 2 ^ k ≡ 0). eq-eqb _ _ e ∙ sym (lt-ltb _ _ (below-pow n k e)))
-    (λ (z : n / 2 ^ k ≡ 0 → ⊥). ne-eqb _ _ z ∙ sym (le-ltb _ _ (⊎-elim (λ (l : n < 2 ^ k). absurd (z (div-eq-of-lt l))) (λ (g : 2 ^ k ≤ n). g) (order n (2 ^ k)))))
-    (same-or-not (n / 2 ^ k) 0)
 
 module _ (xs : List ℕ) (bytes : Bytes xs) (s : ℕ) where
   -- the last word is all that is left of the number above the others

@@ -2,58 +2,27 @@
 -- Assumes nothing.
 use mathlib.Core.Path.{_≡_, sym, ap, _∙_}
 use mathlib.Core.Bool.{true}
-use mathlib.Core.Logic.{⊎-elim}
 use mathlib.Core.List.{List}
-use Prim.Native.Nat.{ℕ, zero, suc, _+_, _*_, _%_, _^_, _≤_, _<_}
-use native.Mathlib.Nat.{zero-add, add-zero, mod-eq-of-lt, suc-mul, mul-le-mul-right}
+use Prim.Native.Nat.{ℕ, _+_, _*_, _^_, _≤_, _<_}
+use native.Mathlib.Nat.{zero-add, add-zero, mod-eq-of-lt}
 use native.Mathlib.Omega.{arith}
 use lib.ListN.{length, take, drop, length-append, length-drop, take-append-drop}
-use lib.Seq.{take-add, take-all}
+use lib.Seq.{take-all}
 use Rattle.fields.specs.Le.{Bytes, le, digits}
 use Rattle.fields.proofs.Laws.{length-digits, le-digits, digits-le}
+use Rattle.fields.proofs.Binary.{pow-bytes}
+use Rattle.fields.proofs.Tables.{le-first, le-second, table, table-length, table-at, pieces}
 use Rattle.model.specs.Tests.{flat}
 use Rattle.model.specs.Lists.{Rising, below}
-use Rattle.model.proofs.Tests.{flat-same, last-or-before}
+use Rattle.model.proofs.Tests.{flat-same}
 use Rattle.model.proofs.Rising.{rising-wider, rising-room}
 use Rattle.model.proofs.Standing.{below-most}
 use Rattle.word.specs.Bits.{bitsFrom, numFrom}
 use Rattle.word.proofs.Places.{below-bits}
 use Rattle.word.proofs.Numbers.{num-bits, num-lt, bits-num}
 use Rattle.bitmap.specs.Body.{wordsOf, groupsOf, bitmapLength, number, stated, before, bitmapNames, bitmapAccepts, bitmapLayout}
-use Rattle.bitmap.proofs.Le.{pow-bytes, le-first, le-second}
 use Rattle.bitmap.proofs.Words.{number-lt}
 use Rattle.bitmap.proofs.Groups.{stated-at, Parts, ok-parts, parts-ok}
-
--- ---- a table of w-byte numbers
-
-module _ (w : ℕ) (v : ℕ → ℕ) where
-  abbrev table : ℕ → List ℕ
-  table n = flat (λ (g : ℕ). digits w (v g)) n
-
-  table-length : (n : ℕ) → length (table n) ≡ n * w
-  unfolding flat
-  table-length zero = omega arith
-  table-length (suc n) = length-append (table n) (digits w (v n)) ∙ rw (table-length n, length-digits, suc-mul n w)
-
-  table-at : (n g : ℕ) → g < n → le w (table n) (g * w) ≡ v g % 256 ^ w
-  unfolding flat
-  table-at zero g h = absurd (omega arith)
-  table-at (suc n) g h =
-      ⊎-elim
-      (λ (q : g ≡ n).
-      let e : n * w ≡ length (table n) + 0 = sym (add-zero _ ∙ table-length n) in
-      rw (q, e) (le-second w (table n) (digits w (v n)) 0 ∙ le-digits w (v n)))
-      (λ (l : g < n).
-      let m : suc g * w ≤ n * w = mul-le-mul-right w l in
-      let r : g * w + w ≤ length (table n) = rw (table-length n, ← suc-mul) m in
-      le-first w (table n) (digits w (v n)) (g * w) r ∙ table-at n g l)
-      (last-or-before h)
-
--- a list cut into pieces of w
-pieces : (w n : ℕ) (xs : List ℕ) → flat (λ (g : ℕ). take w (drop (g * w) xs)) n ≡ take (n * w) xs
-unfolding flat
-pieces w zero xs = let e : 0 * w ≡ 0 = omega arith in rw e
-pieces w (suc n) xs = rw (pieces w n xs, suc-mul n w) (sym (take-add (n * w) w xs))
 
 -- ---- a list that fits
 
@@ -76,10 +45,10 @@ module _ (s : ℕ) (rows : List ℕ) (rising : Rising 0 s rows) where
   laid-number =
       let heads = table 2 stating (groupsOf s) in
       let words = digits (8 * wordsOf s) (numFrom 0 rows) in
-      let e : 2 * groupsOf s ≡ length heads + 0 = omega (arith, table-length 2 stating (groupsOf s)) in
+      let e : length heads ≡ 2 * groupsOf s = omega (arith, table-length 2 stating (groupsOf s)) in
       let f : 8 * (8 * wordsOf s) ≡ 64 * wordsOf s = omega arith in
       let l : numFrom 0 rows < 256 ^ (8 * wordsOf s) = rw (pow-bytes, f) (num-lt (64 * wordsOf s) 0 rows wide) in
-      rw e (le-second (8 * wordsOf s) heads words 0 ∙ le-digits (8 * wordsOf s) (numFrom 0 rows) ∙ mod-eq-of-lt l)
+      rw add-zero at (le-second (8 * wordsOf s) heads words (2 * groupsOf s) 0 e) ∙ le-digits (8 * wordsOf s) (numFrom 0 rows) ∙ mod-eq-of-lt l
 
   -- the layout names the list
   pub layout-names : bitmapNames body s ≡ rows

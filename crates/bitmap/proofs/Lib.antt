@@ -1,4 +1,3 @@
-pub mod Le
 pub mod Words
 pub mod Groups
 pub mod Readings

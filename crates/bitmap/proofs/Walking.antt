@@ -1,18 +1,18 @@
 -- The rows that are left in the middle of a walk, and what is written of them.
 -- Assumes nothing.
-use mathlib.Core.Path.{_≡_, refl, sym, ap, _∙_}
+use mathlib.Core.Path.{_≡_, refl, sym, _∙_}
 use mathlib.Core.List.{List, [], _∷_, _++_}
-use Prim.Native.Nat.{ℕ, suc, _+_, _-_, _*_, _%_, _≤_, _<_}
-use native.Mathlib.Nat.{add-zero}
-use native.Mathlib.Numerals.{add-one}
+use Prim.Native.Nat.{ℕ, _+_, _-_, _*_, _%_, _≤_, _<_}
+use native.Mathlib.Nat.{zero-add, add-zero}
 use native.Mathlib.Omega.{arith}
-use lib.ListN.{length, getD, take, drop, set, length-set, length-drop, List·getD-append}
-use lib.Seq.{drop-cons, take-suc, take-all, take-nil, getD-drop, drop-append-le, length-take-le}
+use lib.ListN.{length, getD, take, drop, set, length-drop, List·getD-append}
+use lib.Seq.{take-nil, getD-drop, drop-append-le}
 use Rattle.fields.specs.Le.{Bytes}
 use Rattle.model.specs.Lists.{shift, moved}
-use Rattle.model.specs.Answers.{over, Walked}
+use Rattle.model.specs.Answers.{Walked}
 use Rattle.model.proofs.Append.{length-shift, getD-shift, shift-drop}
-use Rattle.model.proofs.Writing.{length-moved, moved-append, over-none, over-next}
+use Rattle.model.proofs.Taking.{drop-past}
+use Rattle.model.proofs.Writing.{over-none, Filled, filled-start, filled-more, filled-end}
 use Rattle.word.specs.Bits.{bitsFrom, bitsOf}
 use Rattle.word.proofs.Bits.{bits-zero, bits-moved}
 use Rattle.bitmap.specs.Body.{wordsOf, wordOf}
@@ -92,49 +92,19 @@ no-walk xs s k base old e = rw (e, take-nil) (record { written = sym (over-none 
 
 -- ---- writing
 
--- the next of a list, by what is left of it
-module _ (rows t : List ℕ) (n x : ℕ) (e : drop n rows ≡ x ∷ t) where
-  more : n < length rows
-  more = omega (arith, ap length e, length-drop n rows)
-
-  same : getD rows n 0 ∷ drop (suc n) rows ≡ x ∷ t
-  same = sym (drop-cons rows n 0 more) ∙ e
-
-  take-next : take (n + 1) rows ≡ take n rows ++ (x ∷ [])
-  take-next = let q : getD rows n 0 ≡ x = cc same in rw (add-one, take-suc rows n 0 more, q)
-
-  drop-next : t ≡ drop (n + 1) rows
-  drop-next = rw add-one (cc same)
-
--- n of the rows are written
+-- n of the rows are written, and the others are those from word i on, of which `word` is left
 pub record Filling (xs : List ℕ) (s : ℕ) (rows : List ℕ) (base : ℕ) (old new : List ℕ) (n i word : ℕ) : Type 0 where
   pub inside : i < wordsOf s
-  pub sized : length new ≡ length old
-  pub fits : n ≤ length old
-  pub few : n ≤ length rows
+  pub filled : Filled base 0 rows old new n
   pub rest : restOf xs s i word ≡ drop n rows
-  pub written : new ≡ over (moved base (take n rows)) old
 
 module _ (xs : List ℕ) (s : ℕ) (rows : List ℕ) (base : ℕ) (old : List ℕ) where
   pub filling-start : (i word : ℕ) → i < wordsOf s → restOf xs s i word ≡ rows → Filling xs s rows base old old 0 i word
-  unfolding moved
-  filling-start i word h e = record { inside = h; sized = refl; fits = omega arith; few = omega arith; rest = e; written = sym (over-none old) }
-
-  -- all that are wanted
-  filled : (new : List ℕ) (n i word : ℕ) → Filling xs s rows base old new n i word → take n rows ≡ take (length old) rows → Walked (moved base (take (length old) rows)) old new n
-  filled new n i word f e =
-      record { written = rw (← e) (f .written); number = rw (← e) (sym (length-moved base (take n rows) ∙ length-take-le n rows (f .few))) }
-
-  pub filling-full : (new : List ℕ) (n i word : ℕ) → Filling xs s rows base old new n i word → length old ≤ n → Walked (moved base (take (length old) rows)) old new n
-  filling-full new n i word f h = let e : n ≡ length old = omega (arith, f .fits) in filled new n i word f (rw e)
+  filling-start i word h e = record { inside = h; filled = filled-start base 0 rows old (omega arith); rest = e }
 
   -- all that there are
   pub filling-out : (new : List ℕ) (n i word j v : ℕ) → Filling xs s rows base old new n i word → Settled xs s i word j v → v ≡ 0 → Walked (moved base (take (length old) rows)) old new n
-  filling-out new n i word j v f c z =
-      let l : length rows ≤ n = omega (arith, length-drop n rows, ap length (sym (f .rest) ∙ c .over z)) in
-      let p : take n rows ≡ rows = take-all n rows l in
-      let q : take (length old) rows ≡ rows = take-all (length old) rows (omega (arith, f .fits)) in
-      filled new n i word f (p ∙ sym q)
+  filling-out new n i word j v f c z = filled-end (f .filled) (sym (f .rest) ∙ c .over z)
 
   -- one more
   pub filling-next : (new : List ℕ) (n i word j v place left : ℕ) → Filling xs s rows base old new n i word → n < length old → Settled xs s i word j v → bitsOf v ≡ place ∷ bitsOf left
@@ -144,13 +114,8 @@ module _ (xs : List ℕ) (s : ℕ) (rows : List ℕ) (base : ℕ) (old : List �
       let x = 64 * j + place in
       let t = restOf xs s j left in
       let d : drop n rows ≡ x ∷ t = sym (f .rest) ∙ sym (c .same) ∙ rest-first xs s j v place left e in
-      let front = moved base (take n rows) in
-      let size : length front ≡ n = length-moved base (take n rows) ∙ length-take-le n rows (f .few) in
       record {
         inside = c .inside;
-        sized = length-set new n _ ∙ f .sized;
-        fits = omega arith;
-        few = omega (arith, more rows t n x d);
-        rest = drop-next rows t n x d;
-        written = rw (f .written, take-next rows t n x d, moved-append) (over-next front old n ((base + x) % 4294967296) size h);
+        filled = rw zero-add at (filled-more (f .filled) (x ∷ []) t d (omega arith));
+        rest = sym (drop-past rows (x ∷ []) t n d);
       }

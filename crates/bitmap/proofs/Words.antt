@@ -9,12 +9,12 @@ use native.Mathlib.Omega.{arith}
 use lib.ListN.{length, length-append}
 use lib.Pow.{shr-shr}
 use Rattle.fields.specs.Le.{Bytes, le}
+use Rattle.fields.proofs.Binary.{le-lt, le-high, le-low}
 use Rattle.model.proofs.Tests.{order}
 use Rattle.word.specs.Bits.{bitsFrom, bitsOf}
 use Rattle.word.proofs.Bits.{bits-cat, bits-cut, bits-mod, bits-count, bits-short, bits-most}
 use Rattle.bitmap.specs.Body.{wordsOf, groupsOf, number, wordOf, before, bitmapNames}
 use Rattle.bitmap.specs.Reading.{from, restOf, Between}
-use Rattle.bitmap.proofs.Le.{le-lt, le-high, le-low}
 
 -- ---- on any list of numbers
 

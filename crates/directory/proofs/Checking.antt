@@ -1,7 +1,7 @@
 -- Reading the entries of a directory, and what a flag loop over them keeps.
 -- Assumes nothing.
 use mathlib.Core.Path.{_≡_, refl, sym, ap}
-use mathlib.Core.Bool.{Bool, true, false, _&&_, _||_}
+use mathlib.Core.Bool.{Bool, true, _&&_, _||_}
 use mathlib.Core.List.{List}
 use Prim.Native.Nat.{ℕ, _+_, _*_, _<_, _≤_}
 use native.Mathlib.Nat.{add-zero}
@@ -11,9 +11,9 @@ use lib.Dec.{leb, eqb}
 use lib.ListN.{length, getD}
 use borrow.Author.Tests.{le-leb}
 use Rattle.fields.specs.Le.{le}
-use Rattle.model.specs.Tests.{both, pick, all, total}
+use Rattle.model.specs.Tests.{all, total}
 use Rattle.model.specs.Lists.{counted}
-use Rattle.model.proofs.Counted.{and-both}
+use Rattle.model.proofs.Counted.{and-both, or-pick, both-yes}
 use Rattle.search.specs.Search.{entry}
 use Rattle.directory.specs.Directory.{statedCount, startAt, spanAt, countAt, lengthAt, zeroAt, entryOf, rowsBefore, bytesBefore, directorySize, endBefore, isLocal, fits, segmentFits, segmentsFit}
 use Rattle.directory.specs.declared.Segment.{Segment}
@@ -33,20 +33,9 @@ entry-is xs i a b c d e f = rw (a, b, c, d, e, f, byte-is)
 
 -- ---- the code's flags
 
--- the code's `|` of two flags is a choice
-or-pick : (a b : Bool) → (a || b) ≡ pick a true b
-unfolding pick
-or-pick true b = refl
-or-pick false b = refl
-
 pub local-is : (t : ℕ) → (eqb t 1 || (eqb t 3 || (eqb t 4 || (eqb t 6 || eqb t 7)))) ≡ isLocal t
 unfolding isLocal
 local-is t = simp or-pick
-
-both-yes : (a : Bool) → both a true ≡ a
-unfolding both
-both-yes true = refl
-both-yes false = refl
 
 pub counted-is : (span n : ℕ) → n ≤ 65535 → (leb 1 n && leb n span) ≡ counted span n
 unfolding counted

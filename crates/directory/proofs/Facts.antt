@@ -8,33 +8,15 @@ use Prim.Native.Nat.{ℕ, zero, suc, _+_, _-_, _<_, _≤_}
 use native.Mathlib.Nat.{eq-or-lt-of-le}
 use native.Mathlib.Omega.{arith}
 use lib.ListN.{length, length-take, length-drop}
-use borrow.Author.Tests.{leb-true, leb-false, eqb-true}
+use borrow.Author.Tests.{eqb-true}
 use Rattle.model.specs.Tests.{pick, total}
-use Rattle.model.proofs.Tests.{either, last-or-before, pick-false}
-use Rattle.search.specs.Search.{upTo, allowed, Cut}
-use Rattle.search.proofs.Laws.{falls-level, find-cut}
+use Rattle.model.proofs.Tests.{either, pick-false}
+use Rattle.model.proofs.Sums.{total-le, total-within}
+use Rattle.model.proofs.Windows.{windows-apart, windows-level}
+use Rattle.search.specs.Search.{upTo, Cut}
+use Rattle.search.proofs.Laws.{falls-level, at-most, above, find-cut}
 use Rattle.directory.specs.Directory.{statedCount, startAt, spanAt, countAt, ordinalAt, offsetAt, lengthAt, partOf, rowsBefore, directorySize, endBefore, isLocal, startsTo, ordinalsTo}
 use Rattle.directory.proofs.Parts.{Directory}
-
--- ---- sums
-
-pub total-least : (f : ℕ → ℕ) (i n : ℕ) → i < n → total f i + f i ≤ total f n
-unfolding total
-total-least f i zero h = absurd (omega arith)
-total-least f i (suc n) h = ⊎-elim (λ q. rw q (omega arith)) (λ l. omega (arith, total-least f i n l)) (last-or-before h)
-
-pub total-level : (f : ℕ → ℕ) (i n : ℕ) → i ≤ n → total f i ≤ total f n
-total-level f i n h = ⊎-elim (λ q. rw q (omega arith)) (λ l. omega (arith, total-least f i n l)) (eq-or-lt-of-le h)
-
--- ---- what a search's test says
-
-pub at-most : (f : ℕ → ℕ) (key i : ℕ) → upTo false f key i ≡ true → f i ≤ key
-unfolding upTo allowed
-at-most f key i e = leb-true (f i) key e
-
-pub above : (f : ℕ → ℕ) (key i : ℕ) → upTo false f key i ≡ false → key < f i
-unfolding upTo allowed
-above f key i e = leb-false (f i) key e
 
 -- the tags of local forms, one by one
 pub local-cases : (t : ℕ) → isLocal t ≡ true → (t ≡ 1) ⊎ ((t ≡ 3) ⊎ ((t ≡ 4) ⊎ ((t ≡ 6) ⊎ (t ≡ 7))))
@@ -52,12 +34,10 @@ module _ {xs : List ℕ} {span n : ℕ} (d : Directory xs span n) where
   next-apart i h = d .fit (suc i) h .apart
 
   pub segments-apart : (i j : ℕ) → i < j → j < n → startAt xs i + spanAt xs i ≤ startAt xs j
-  segments-apart i zero l h = absurd (omega arith)
-  segments-apart i (suc j) l h =
-      ⊎-elim (λ q. rw q (next-apart j h)) (λ m. omega (arith, segments-apart i j m (omega arith), next-apart j h)) (last-or-before l)
+  segments-apart = windows-apart (startAt xs) (λ (i : ℕ). startAt xs i + spanAt xs i) n (λ i l. omega arith) next-apart
 
   pub starts-level : (i j : ℕ) → i ≤ j → j < n → startAt xs i ≤ startAt xs j
-  starts-level i j l h = ⊎-elim (λ q. rw q (omega arith)) (λ m. omega (arith, segments-apart i j m h)) (eq-or-lt-of-le l)
+  starts-level = windows-level (startAt xs) (λ (i : ℕ). startAt xs i + spanAt xs i) n (λ i l. omega arith) next-apart
 
   -- a position of a segment, counted from the start of the whole, fits 32 bits
   pub no-wrap : span ≤ 4294967295 → (i p : ℕ) → i < n → p < spanAt xs i → startAt xs i + p < 4294967296
@@ -74,7 +54,7 @@ module _ {xs : List ℕ} {span n : ℕ} (d : Directory xs span n) where
   ordinal-next i h = rw (d .fit i h .ordinal)
 
   pub ordinals-level : (i j : ℕ) → i ≤ j → j < n → ordinalAt xs i ≤ ordinalAt xs j
-  ordinals-level i j l h = rw (d .fit i (omega arith) .ordinal, d .fit j h .ordinal) (total-level (countAt xs) i j l)
+  ordinals-level i j l h = rw (d .fit i (omega arith) .ordinal, d .fit j h .ordinal) (total-le (countAt xs) i j l)
 
   -- ---- payloads
 
@@ -87,7 +67,7 @@ module _ {xs : List ℕ} {span n : ℕ} (d : Directory xs span n) where
   payload-next i h = omega (arith, d .fit (suc i) h .payload, d .fit i (omega arith) .payload)
 
   pub payload-inside : (i : ℕ) → i < n → offsetAt xs i + lengthAt xs i ≤ length xs
-  payload-inside i h = omega (arith, d .fit i h .payload, total-least (lengthAt xs) i n h, d .end)
+  payload-inside i h = omega (arith, d .fit i h .payload, total-within (lengthAt xs) i n h, d .end)
 
   pub payload-length : (i : ℕ) → i < n → length (partOf xs i) ≡ lengthAt xs i
   unfolding partOf

@@ -1,35 +1,22 @@
 -- What an accepted directory names, over what its segments name: a rising list in pieces, and place and select as one segment's.
 -- Assumes nothing.
-use mathlib.Core.Path.{_≡_, refl, sym, _∙_}
+use mathlib.Core.Path.{_≡_, sym, _∙_}
 use mathlib.Core.Bool.{false}
 use mathlib.Core.List.{List}
 use Prim.Native.Nat.{ℕ, zero, suc, _+_, _-_, _<_, _≤_}
 use native.Mathlib.Nat.{add-zero}
 use native.Mathlib.Omega.{arith}
-use lib.ListN.{length, getD, length-append}
-use Rattle.model.specs.Tests.{flat, total}
-use Rattle.model.specs.Lists.{Rising, below, has, shift}
-use Rattle.model.proofs.Append.{length-shift, getD-shift, shift-rising, below-shift, has-shift}
+use lib.ListN.{length, getD}
+use Rattle.model.specs.Tests.{flat}
+use Rattle.model.specs.Lists.{Rising, below, has}
+use Rattle.model.proofs.Sums.{flat-total}
+use Rattle.model.proofs.Append.{length-shift, getD-shift, shift-rising, below-shifted, has-shifted}
 use Rattle.model.proofs.Pieces.{Pieces, pieces-rising, pieces-none, pieces-place, pieces-select}
 use Rattle.search.specs.Search.{upTo, Cut}
+use Rattle.search.proofs.Laws.{at-most, above}
 use Rattle.directory.specs.Directory.{statedCount, statedSegments, startAt, spanAt, countAt, ordinalAt, rowsBefore, startsTo, ordinalsTo, pieceOf, namesOf}
 use Rattle.directory.proofs.Parts.{Directory}
-use Rattle.directory.proofs.Facts.{segments-apart, at-most, above, starts-cut, Holds, ordinal-holds}
-
--- ---- general laws
-
--- the length of lists one after the other
-pub flat-total : {A : Type 0} (f : ℕ → List A) (c : ℕ → ℕ) (n : ℕ) → ((i : ℕ) → i < n → length (f i) ≡ c i) → length (flat f n) ≡ total c n
-unfolding flat total
-flat-total f c zero h = refl
-flat-total f c (suc n) h = length-append (flat f n) (f n) ∙ omega (arith, flat-total f c n (λ i l. h i (omega arith)), h n (omega arith))
-
--- place in a list counted from b, asked by the position of the whole
-pub below-shifted : (b : ℕ) (ys : List ℕ) (p : ℕ) → b ≤ p → below (shift b ys) p ≡ below ys (p - b)
-below-shifted b ys p h = let e : b + (p - b) ≡ p = omega arith in rw e at (below-shift b ys (p - b))
-
-pub has-shifted : (b : ℕ) (ys : List ℕ) (p : ℕ) → b ≤ p → has (shift b ys) p ≡ has ys (p - b)
-has-shifted b ys p h = let e : b + (p - b) ≡ p = omega arith in rw e at (has-shift b ys (p - b))
+use Rattle.directory.proofs.Facts.{segments-apart, starts-cut, Holds, ordinal-holds}
 
 -- ---- what is asked of the segments: each names positions below its span, as many as it states
 

@@ -1,16 +1,14 @@
 -- An accepted directory taken apart: the record by which readers know it, and what follows from it for each segment.
 -- Assumes nothing.
-use mathlib.Core.Path.{_≡_, refl, sym, _∙_}
+use mathlib.Core.Path.{_≡_, refl}
 use mathlib.Core.Bool.{Bool, true, false, _&&_}
-use mathlib.Core.Logic.{⊎-elim}
 use mathlib.Core.List.{List}
 use Prim.Native.Nat.{ℕ, _+_, _<_, _≤_}
 use native.Mathlib.Omega.{arith}
 use lib.ListN.{length}
 use borrow.Author.Tests.{leb-true, eqb-true, le-leb, eq-eqb}
-use Rattle.model.specs.Tests.{both}
 use Rattle.model.specs.Lists.{counted}
-use Rattle.model.proofs.Tests.{either, both-true, both-left, both-right, all-at, all-from}
+use Rattle.model.proofs.Tests.{refuse, both-true, both-left, both-right, all-at, all-from}
 use Rattle.model.proofs.Counted.{both-pass, and-both, Count, counted-right, counted-count}
 use Rattle.directory.specs.Directory.{statedCount, statedSegments, startAt, spanAt, countAt, ordinalAt, offsetAt, tagAt, zeroAt, entryOf, rowsBefore, bytesBefore, directorySize, endBefore, isLocal, fits, segmentFits, segmentsFit, directoryAccepts}
 
@@ -90,17 +88,14 @@ module _ (xs : List ℕ) (span : ℕ) where
 
   -- ---- the answers of the check
 
-  refuse : (directoryAccepts xs span ≡ true → ⊥) → false ≡ directoryAccepts xs span
-  refuse h = ⊎-elim (λ e. absurd (h e)) (λ e. sym e) (either (directoryAccepts xs span))
-
   pub check-short : length xs < 4 → false ≡ directoryAccepts xs span
-  check-short l = refuse (λ e. omega (arith, accepts-directory e .room))
+  check-short l = refuse _ (λ e. omega (arith, accepts-directory e .room))
 
   pub check-none : (n : ℕ) → n ≡ statedSegments xs → n ≡ 0 → false ≡ directoryAccepts xs span
-  check-none n q z = refuse (λ e. omega (arith, accepts-directory e .some))
+  check-none n q z = refuse _ (λ e. omega (arith, accepts-directory e .some))
 
   pub check-room : (n : ℕ) → n ≡ statedSegments xs → length xs < directorySize n → false ≡ directoryAccepts xs span
-  check-room n q l = refuse (λ e. omega (arith, accepts-directory e .room))
+  check-room n q l = refuse _ (λ e. omega (arith, accepts-directory e .room))
 
   pub check-segments : {t r : Bool} {n count : ℕ} → n ≡ statedSegments xs → (n ≡ 0 → ⊥) → directorySize n ≤ length xs → t ≡ counted span count → count ≡ statedCount xs
       → r ≡ segmentsFit xs span n → (t && r) ≡ directoryAccepts xs span

@@ -1,8 +1,8 @@
 -- The walk over an accepted directory: what is left from an ordinal on, segment by segment, in the shape that a loop over the segments consumes.
 -- Assumes nothing.
 use mathlib.Core.Path.{_≡_, sym, ap, _∙_}
-use mathlib.Core.List.{List, [], _∷_, _++_, append-assoc, append-nil}
-use Prim.Native.Nat.{ℕ, zero, suc, _+_, _-_, _<_, _≤_}
+use mathlib.Core.List.{List, [], _++_, append-assoc, append-nil}
+use Prim.Native.Nat.{ℕ, suc, _+_, _-_, _<_, _≤_}
 use native.Mathlib.Nat.{add-zero}
 use native.Mathlib.Omega.{arith}
 use lib.ListN.{length, take, drop, length-append, length-take, drop-of-length-le}
@@ -10,20 +10,13 @@ use lib.Seq.{drop-append-add, drop-append-le, take-nil}
 use Rattle.model.specs.Tests.{flat, total}
 use Rattle.model.specs.Lists.{shift, moved, walkOf}
 use Rattle.model.proofs.Append.{shift-drop}
+use Rattle.model.proofs.Taking.{take-append}
 use Rattle.model.proofs.Pieces.{flat-split}
 use Rattle.model.proofs.Writing.{moved-walk}
 use Rattle.directory.specs.Directory.{statedSegments, startAt, countAt, ordinalAt, rowsBefore, pieceOf, namesOf}
 use Rattle.directory.proofs.Parts.{Directory}
 use Rattle.directory.proofs.Facts.{Holds}
 use Rattle.directory.proofs.Names.{Named, piece-length, front-length, names-length}
-
--- ---- general laws
-
--- as many as fit of one list after the other
-pub take-append : {A : Type 0} (m : ℕ) (us vs : List A) → take m (us ++ vs) ≡ take m us ++ take (m - length us) vs
-take-append zero us vs = let e : 0 - length us ≡ 0 = omega arith in rw e
-take-append (suc m) [] vs = let e : suc m - 0 ≡ suc m = omega arith in rw e
-take-append (suc m) (u ∷ us) vs = let e : suc m - suc (length us) ≡ m - length us = omega arith in rw (e, take-append m us vs)
 
 -- ---- what is left
 

@@ -13,7 +13,7 @@ use lib.Seq.{sets, set-comm, take-suc, take-all, length-take-le}
 use borrow.Author.Tests.{eq-eqb, ne-eqb}
 use Rattle.model.specs.Tests.{pick}
 use Rattle.model.proofs.Tests.{either}
-use Rattle.fields.proofs.Laws.{sets-append}
+use Rattle.model.proofs.Sets.{sets-append}
 use Rattle.listing.specs.Text.{Put, digits, decimal, places}
 
 -- ---- stores

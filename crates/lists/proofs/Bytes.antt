@@ -3,15 +3,16 @@
 use mathlib.Core.Path.{_≡_, refl, sym, _∙_}
 use mathlib.Core.List.{List, [], _∷_, _++_, append-assoc, append-nil}
 use Prim.Native.Nat.{ℕ, zero, suc, _+_, _*_, _%_, _^_, _<_, _≤_}
-use native.Mathlib.Nat.{zero-add, zero-mul, suc-mul}
+use native.Mathlib.Nat.{zero-mul, suc-mul}
 use native.Mathlib.Omega.{arith}
-use lib.ListN.{length, getD, take, drop, length-append, List·getD-append}
-use lib.Seq.{getD-append-add, take-add}
-use Rattle.fields.specs.Le.{Bytes, le, digits}
-use Rattle.fields.proofs.Laws.{le-same, le-digits, length-digits, digits-le}
+use lib.ListN.{length, getD, take, drop, length-append}
+use lib.Seq.{take-add}
+use Rattle.fields.specs.Le.{Bytes, digits}
+use Rattle.fields.proofs.Laws.{length-digits, digits-le}
+use Rattle.fields.proofs.Tables.{le-behind}
 use Rattle.model.specs.Tests.{tabulate}
+use Rattle.search.proofs.Entries.{entry-at, entry-behind}
 use Rattle.lists.specs.Lists.{listLayout, item}
-use Rattle.lists.proofs.Slots.{item-at}
 
 module _ (w : ℕ) where
   pub length-layout : (xs : List ℕ) → length (listLayout w xs) ≡ length xs * w
@@ -26,21 +27,11 @@ module _ (w : ℕ) where
 
   -- ---- what was put is read back
 
-  field-at : (xs : List ℕ) (i : ℕ) → i < length xs → le w (listLayout w xs) (i * w) ≡ getD xs i 0 % 256 ^ w
-  unfolding listLayout
-  field-at [] i h = absurd (omega arith)
-  field-at (x ∷ xs) zero h =
-      let size = length-digits w x in
-      let first : (j : ℕ) → j < w → getD (digits w x ++ listLayout w xs) (0 * w + j) 0 ≡ getD (digits w x) (0 + j) 0 = λ j l. rw (zero-mul, zero-add) (List·getD-append (digits w x) (listLayout w xs) 0 j (omega arith)) in
-      le-same w (digits w x ++ listLayout w xs) (digits w x) (0 * w) 0 first ∙ le-digits w x
-  field-at (x ∷ xs) (suc i) h =
-      let later : (j : ℕ) → j < w → getD (digits w x ++ listLayout w xs) (suc i * w + j) 0 ≡ getD (listLayout w xs) (i * w + j) 0 = λ j l.
-      let e : suc i * w + j ≡ length (digits w x) + (i * w + j) = rw suc-mul (omega (arith, length-digits w x)) in
-      rw e (getD-append-add (digits w x) (listLayout w xs) (i * w + j) 0) in
-      le-same w (digits w x ++ listLayout w xs) (listLayout w xs) (suc i * w) (i * w) later ∙ field-at xs i (omega arith)
-
   pub layout-item : (xs : List ℕ) (i : ℕ) → i < length xs → item w (listLayout w xs) i ≡ getD xs i 0 % 256 ^ w
-  layout-item xs i h = sym (item-at w (listLayout w xs) i) ∙ field-at xs i h
+  unfolding listLayout
+  layout-item [] i h = absurd (omega arith)
+  layout-item (x ∷ xs) zero h = rw (← entry-at, zero-mul) (le-behind w x 0 [] (listLayout w xs) refl)
+  layout-item (x ∷ xs) (suc i) h = entry-behind w 0 w (digits w x) (listLayout w xs) i (length-digits w x) ∙ layout-item xs i (omega arith)
 
   -- ---- the bytes are those of the numbers read
 
@@ -50,5 +41,5 @@ module _ (w : ℕ) where
   layout-read xs b (suc n) h =
       let e : suc n * w ≡ n * w + w = suc-mul n w in
       let front : listLayout w (tabulate (item w xs) n) ≡ take (n * w) xs = layout-read xs b n (omega arith) in
-      let last : digits w (item w xs n) ≡ take w (drop (n * w) xs) = rw (← item-at w xs n) (digits-le w xs (n * w) b (omega arith)) in
+      let last : digits w (item w xs n) ≡ take w (drop (n * w) xs) = rw (← entry-at w xs w n) (digits-le w xs (n * w) b (omega arith)) in
       rw (layout-append (tabulate (item w xs) n) (item w xs n ∷ []), append-nil, front, last, e, take-add)

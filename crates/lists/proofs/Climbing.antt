@@ -4,7 +4,7 @@ use mathlib.Core.Path.{_≡_, refl, _∙_}
 use mathlib.Core.Bool.{Bool, true, _&&_}
 use mathlib.Core.Logic.{⊎-elim}
 use mathlib.Core.List.{List}
-use Prim.Native.Nat.{ℕ, zero, suc, _+_, _-_, _<_, _≤_}
+use Prim.Native.Nat.{ℕ, suc, _+_, _-_, _<_, _≤_}
 use native.Mathlib.Omega.{arith}
 use lib.Dec.{ltb}
 use lib.ListN.{length, getD}
@@ -13,6 +13,7 @@ use Rattle.model.specs.Tests.{both, all, tabulate}
 use Rattle.model.specs.Lists.{Rising}
 use Rattle.model.proofs.Tests.{both-true, both-left, both-right, all-at, all-from, all-step, last-or-before, length-tabulate, getD-tabulate, same-test}
 use Rattle.model.proofs.Counted.{and-both}
+use Rattle.model.proofs.Windows.{windows-apart}
 use Rattle.model.proofs.Rising.{rising-tests, rising-below, rising-strict}
 use Rattle.lists.specs.Lists.{climbs, risesBelow}
 
@@ -36,10 +37,8 @@ module _ (f : ℕ → ℕ) where
 
   pub climbs-far : (m : ℕ) → all (climbs f) m ≡ true → (i j : ℕ) → i < j → j ≤ m → f i < f j
   unfolding climbs
-  climbs-far m ok i zero l h = absurd (omega arith)
-  climbs-far m ok i (suc j) l h =
-      let step : f j < f (suc j) = ltb-true (f j) (f (suc j)) (all-at (climbs f) m ok j h) in
-      ⊎-elim (λ q. rw q step) (λ k. omega (arith, climbs-far m ok i j k (omega arith))) (last-or-before l)
+  climbs-far m ok i j l h =
+      windows-apart f (λ (k : ℕ). suc (f k)) (suc m) (λ k q. omega arith) (λ k q. ltb-true (f k) (f (suc k)) (all-at (climbs f) m ok k (omega arith))) i j l (omega arith)
 
   module _ (span : ℕ) where
     below-last : (m : ℕ) → all (climbs f) m ≡ true → f m < span → (i : ℕ) → i < suc m → ltb (f i) span ≡ true

@@ -3,16 +3,15 @@
 use mathlib.Core.Path.{_≡_, refl, _∙_}
 use mathlib.Core.Bool.{true, false}
 use mathlib.Core.List.{List, [], _∷_}
-use Prim.Native.Nat.{ℕ, suc, _+_, _<_, _≤_}
+use Prim.Native.Nat.{ℕ, _+_, _<_, _≤_}
 use native.Mathlib.Nat.{zero-add}
 use native.Mathlib.Omega.{arith}
 use lib.ListN.{length, getD}
 use borrow.Author.Tests.{eq-eqb, eqb-true}
-use Rattle.model.specs.Lists.{Rising, none, more, range, below, placeOf}
+use Rattle.model.specs.Lists.{Rising, range, below, placeOf}
 use Rattle.model.proofs.Tests.{both-true, both-left, both-right}
-use Rattle.model.proofs.Rising.{rising-room}
 use Rattle.model.proofs.Standing.{has-outside}
-use Rattle.model.proofs.Ranges.{length-range, getD-range, range-rising, below-range, has-range}
+use Rattle.model.proofs.Ranges.{length-range, getD-range, range-rising, below-range, has-range, rising-full}
 use Rattle.lists.specs.Lists.{denseAccepts, denseNames}
 use Rattle.model.proofs.Counted.{Count, counted-right, counted-count}
 
@@ -29,16 +28,6 @@ unfolding placeOf
 dense-past span p h =
     let b : below (range 0 span) p ≡ span = below-range 0 span p ∙ omega arith in
     rw (b, has-outside (range-rising 0 span) p (λ w. omega (arith, w .1)))
-
--- ---- a rising list that fills its room is the range
-
-pub rising-full : {a b : ℕ} {xs : List ℕ} → Rising a b xs → a + length xs ≡ b → range a (length xs) ≡ xs
-unfolding range
-rising-full none e = refl
-rising-full {a} {b} (more {x = x} {xs = xs} l h r) e =
-    let q : x ≡ a = omega (arith, rising-room h r) in
-    let rest : range (suc x) (length xs) ≡ xs = rising-full r (omega arith) in
-    rw (← q, rest)
 
 -- ---- T1 to T4. Select is the ordinal itself, and place and walk are stated of the list where the functions stand
 

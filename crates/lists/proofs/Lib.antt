@@ -1,7 +1,5 @@
-pub mod Slots
 pub mod Climbing
 pub mod Places
-pub mod Writing
 pub mod Dense
 pub mod Bytes
 pub mod Laws

@@ -8,22 +8,19 @@ use native.Mathlib.Nat.{eq-or-lt-of-le}
 use native.Mathlib.Omega.{arith}
 use lib.Dec.{eqb}
 use lib.ListN.{length, getD}
-use borrow.Author.Tests.{eq-eqb, ne-eqb, leb-true, leb-false}
+use borrow.Author.Tests.{eq-eqb, ne-eqb}
 use Rattle.model.specs.Tests.{pick, tabulate}
 use Rattle.model.specs.Lists.{Rising, below, has, placeOf}
 use Rattle.model.proofs.Tests.{either, same-or-not, pick-true, pick-false, length-tabulate, getD-tabulate}
 use Rattle.model.proofs.Rising.{rising-strict}
 use Rattle.model.proofs.Standing.{below-cut, below-at, has-at, has-index}
-use Rattle.search.specs.Search.{find, upTo, allowed, Cut}
-use Rattle.search.proofs.Laws.{find-within, find-cut, falls-level}
+use Rattle.search.specs.Search.{find, upTo, Cut}
+use Rattle.search.proofs.Laws.{find-cut, falls-level, at-most, above}
 use Rattle.lists.specs.Lists.{placeAt}
 
 -- ---- the code's answers: the search's answer k and, past 0, the value v before it
 
 module _ (f : ℕ → ℕ) (n p k : ℕ) (found : k ≡ find (upTo false f p) 0 n) where
-  pub found-within : k ≤ n
-  found-within = rw found (find-within (upTo false f p) n)
-
   before : (j : ℕ) → 0 < j → placeAt f p j ≡ pick (eqb (f (j - 1)) p) (record { below = j - 1; present = true }) (record { below = j; present = false })
   unfolding placeAt
   before zero h = absurd (omega arith)
@@ -51,14 +48,6 @@ module _ (f : ℕ → ℕ) (n : ℕ) {a b : ℕ} (r : Rising a b (tabulate f n))
   level i j l h = ⊎-elim (λ q. rw q (omega arith)) (λ m. omega (arith, strict i j m h)) (eq-or-lt-of-le l)
 
   module _ {k : ℕ} (c : Cut (upTo false f p) n k) where
-    low : (i : ℕ) → i < k → f i ≤ p
-    unfolding upTo allowed
-    low i l = leb-true (f i) p (c .below i l)
-
-    high : (i : ℕ) → k ≤ i → i < n → p < f i
-    unfolding upTo allowed
-    high i g l = leb-false (f i) p (c .from i g l)
-
     -- no value of the k that are at most p is p
     module _ (under : (i : ℕ) → i < k → f i < p) where
       stands : below (tabulate f n) p ≡ k
@@ -66,7 +55,7 @@ module _ (f : ℕ → ℕ) (n : ℕ) {a b : ℕ} (r : Rising a b (tabulate f n))
           let size = length-tabulate f n in
           below-cut (tabulate f n) p k (omega (arith, c .within))
           (λ i l. rw (getD-tabulate f n i 0 (omega (arith, c .within))) (under i l))
-          (λ i g l. let h : i < n = omega arith in rw (getD-tabulate f n i 0 h) (omega (arith, high i g h)))
+          (λ i g l. let h : i < n = omega arith in rw (getD-tabulate f n i 0 h) (omega (arith, above f p i (c .from i g h))))
 
       absent : has (tabulate f n) p ≡ false
       absent =
@@ -74,7 +63,7 @@ module _ (f : ℕ → ℕ) (n : ℕ) {a b : ℕ} (r : Rising a b (tabulate f n))
           (λ e.
           let s = rw stands at (has-index r p e) in
           let h : k < n = omega (arith, s .0, length-tabulate f n) in
-          absurd (omega (arith, high k (omega arith) h, sym (getD-tabulate f n k 0 h) ∙ s .1)))
+          absurd (omega (arith, above f p k (c .from k (omega arith) h), sym (getD-tabulate f n k 0 h) ∙ s .1)))
           (λ e. e)
           (either (has (tabulate f n) p))
 
@@ -96,7 +85,7 @@ module _ (f : ℕ → ℕ) (n : ℕ) {a b : ℕ} (r : Rising a b (tabulate f n))
       ⊎-elim
       (λ (e : f k ≡ p). pick-true _ _ (eq-eqb (f k) p e) ∙ sym (hit k (c .within) e))
       (λ ne.
-      let under : f k < p = ⊎-elim (λ q. absurd (ne q)) (λ l. l) (eq-or-lt-of-le (low c k (omega arith))) in
+      let under : f k < p = ⊎-elim (λ q. absurd (ne q)) (λ l. l) (eq-or-lt-of-le (at-most f p k (c .below k (omega arith)))) in
       pick-false _ _ (ne-eqb (f k) p ne) ∙ sym (missed c (λ i l. omega (arith, level i k (omega arith) (c .within)))))
       (same-or-not (f k) p)
 

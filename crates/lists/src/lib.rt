@@ -9,12 +9,6 @@ ghost use Rattle.model.specs.Answers.{Walked};
 ghost use Rattle.model.specs.Lists.{range, placeOf, walkOf, moved};
 ghost use Rattle.lists.specs.Lists.{item, risesBelow, listAccepts, listNames, listPlace, denseAccepts, denseNames};
 
-fn width(wide: bool) -> usize
-    ensures { λ r. ⌜ r ≡ widthOf wide ⌝ }
-{
-    if wide { 4 } else { 2 }
-}
-
 // The bytes of n items. Each arm multiplies by a number, so that neither asks for a product of variables.
 fn size(n: u16, wide: bool) -> usize
     ensures { λ r. ⌜ r ≡ n * widthOf wide ⌝ }
@@ -72,7 +66,7 @@ pub fn place(body: &[u8], count: u16, p: u32, wide: bool) -> Place
     requires { ⌜ count * widthOf wide ≤ length (now body) ⌝ }
     ensures { λ r. ⌜ r ≡ listPlace (widthOf wide) (now (body .entry)) count p ⌝ }
 {
-    let k = search::upper(body, 0, width(wide), count as usize, p, wide, false);
+    let k = search::upper(body, 0, fields::width(wide), count as usize, p, wide, false);
     if k == 0 {
         return Place {
             below: 0,

@@ -16,14 +16,13 @@ use Rattle.model.proofs.Tests.{both-true, both-left, both-right, order, pick-tr
 use Rattle.model.proofs.Counted.{Count, counted-right, counted-count}
 use Rattle.model.proofs.Rising.{rising-room, rising-below, rising-apart}
 use Rattle.model.proofs.Standing.{below-whole, has-outside}
-use Rattle.model.proofs.Complement.{complement-rising, complement-length, complement-below, complement-has, complement-twice, complement-select}
+use Rattle.model.proofs.Complement.{complement-rising, complement-length, complement-below, complement-has, complement-twice, complement-select, complement-from}
 use Rattle.search.specs.Search.{upTo, allowed, Cut}
 use Rattle.search.proofs.Laws.{find-cut, falls-gaps}
 use Rattle.lists.specs.Lists.{item, risesBelow, listLayout, listNames, listPlace}
 use Rattle.lists.proofs.Bytes.{length-layout}
 use Rattle.lists.proofs.Laws.{layout-names, layout-rises, names-length, names-at, names-layout, names-rising, names-place}
 use Rattle.missing.specs.Missing.{missingLayout, missingAccepts, missingNames, besides, missingPlace, holesBefore, missingSelect, missingFrom}
-use Rattle.missing.proofs.Complement.{complement-from}
 
 -- ---- T1
 

@@ -1,4 +1,3 @@
-pub mod Complement
 pub mod Laws
 pub mod Walking
 pub mod Examples

@@ -1,99 +1,70 @@
 -- The walk from hole to hole: what stands in the output and what is still to come are the whole answer.
 -- Assumes nothing.
-use mathlib.Core.Path.{_≡_, refl, sym, ap, _∙_}
-use mathlib.Core.List.{List, [], _∷_, _++_, append-assoc, append-nil}
-use Prim.Native.Nat.{ℕ, zero, suc, _+_, _-_, _*_, _<_, _≤_, min}
-use native.Mathlib.Nat.{add-zero, sub-zero}
+use mathlib.Core.Path.{_≡_, sym, _∙_}
+use mathlib.Core.List.{List, [], _∷_, _++_, append-nil}
+use Prim.Native.Nat.{ℕ, suc, _+_, _-_, _*_, _<_, _≤_, min}
+use native.Mathlib.Nat.{zero-add, sub-zero}
 use native.Mathlib.Numerals.{add-one}
 use native.Mathlib.Omega.{arith}
-use lib.ListN.{length, getD, take, drop, length-append, drop-of-length-le}
-use lib.Seq.{sets, take-nil, drop-cons, length-sets}
+use lib.ListN.{length, getD, take, drop, drop-of-length-le}
+use lib.Seq.{drop-cons}
 use Rattle.fields.specs.Le.{le}
 use Rattle.model.specs.Lists.{range, moved, complement}
-use Rattle.model.specs.Answers.{over, Walked}
+use Rattle.model.specs.Answers.{Walked}
 use Rattle.model.proofs.Ranges.{length-range}
-use Rattle.model.proofs.Writing.{length-moved, moved-append, over-none}
+use Rattle.model.proofs.Taking.{take-append, take-range, drop-past}
+use Rattle.model.proofs.Writing.{Filled, filled-start, filled-length, filled-more, filled-all}
+use Rattle.search.proofs.Entries.{entry-at}
 use Rattle.lists.specs.Lists.{listNames}
-use Rattle.lists.proofs.Slots.{item-at}
-use Rattle.lists.proofs.Writing.{over-sets, walk-range}
 use Rattle.lists.proofs.Laws.{names-length, names-at}
 use Rattle.missing.specs.Missing.{Stretched}
 
--- ---- the front of two lists, and of a stretch and what follows
-
-take-two : (n : ℕ) (xs ys : List ℕ) → take n (xs ++ ys) ≡ take n xs ++ take (n - length xs) ys
-take-two n [] ys = rw (sub-zero, take-nil n)
-take-two zero (x ∷ xs) ys = let e : 0 - suc (length xs) ≡ 0 = omega arith in rw e
-take-two (suc n) (x ∷ xs) ys = let e : suc n - suc (length xs) ≡ n - length xs = omega arith in rw (e, take-two n xs ys)
-
-take-range : (r a n : ℕ) → take r (range a n) ≡ range a (min n r)
-take-range r a n = rw add-zero at (walk-range a n 0 r {r = min n r} (omega arith))
-
+-- the front of a stretch and what follows
 stretch-front : (r pos end : ℕ) (ys : List ℕ) → take r (range pos (end - pos) ++ ys) ≡ range pos (min (end - pos) r) ++ take (r - (end - pos)) ys
-stretch-front r pos end ys = take-two r (range pos (end - pos)) ys ∙ rw (take-range, length-range)
+stretch-front r pos end ys = take-append r (range pos (end - pos)) ys ∙ rw (take-range, length-range)
 
--- ---- the loop, over the holes hs
+-- ---- the loop, over the holes hs: what is left to write is what fits of the rows from pos on
 
 pub record Going (hs : List ℕ) (span base : ℕ) (before whole out : List ℕ) (i pos at : ℕ) : Type 0 where
-  pub same : length out ≡ length before
-  pub fits : at ≤ length before
-  pub rows : List ℕ
-  pub size : length rows ≡ at
-  pub front : out ≡ over (moved base rows) before
-  pub rest : rows ++ take (length before - at) (complement pos span (drop i hs)) ≡ whole
+  pub filled : Filled base 0 whole before out at
+  pub rest : drop at whole ≡ take (length before - at) (complement pos span (drop i hs))
 
 module _ (hs : List ℕ) (span base : ℕ) {before whole : List ℕ} where
   pub going-start : {i pos : ℕ} → take (length before) (complement pos span (drop i hs)) ≡ whole → Going hs span base before whole before i pos 0
-  unfolding moved
-  going-start {i} {pos} e =
-      record { same = refl; fits = omega arith; rows = []; size = refl; front = sym (over-none before); rest = rw sub-zero e }
+  going-start {i} {pos} e = record { filled = filled-start base 0 whole before (omega arith); rest = rw sub-zero (sym e) }
 
   module _ {out : List ℕ} {i pos at : ℕ} (g : Going hs span base before whole out i pos at) where
-    -- one stretch more in front
-    more : {after : List ℕ} {end r : ℕ} → Stretched base pos end at out after r → after ≡ over (moved base (g .rows ++ range pos (min (end - pos) (length before - at)))) before
-    more {after} {end} {r} s =
+    -- one stretch more
+    more : {after ys : List ℕ} {end r : ℕ} → Stretched base pos end at out after r → drop at whole ≡ range pos (min (end - pos) (length before - at)) ++ ys
+        → Filled base 0 whole before after r × (drop r whole ≡ ys)
+    more {after} {ys} {end} {r} s e =
         let n = min (end - pos) (length before - at) in
-        let size : length (moved base (g .rows)) ≡ at = length-moved base (g .rows) ∙ g .size in
-        let long : length (moved base (range pos n)) ≡ n = length-moved base (range pos n) ∙ length-range pos n in
-        let out-is : sets out at (moved base (range pos n)) ≡ sets (over (moved base (g .rows)) before) (length (moved base (g .rows))) (moved base (range pos n)) = rw (size, ← g .front) in
-        rw (g .same) at (s .written) ∙ out-is ∙ over-sets (moved base (g .rows)) (moved base (range pos n)) before (omega (arith, g .fits)) ∙ rw (moved-append base (g .rows) (range pos n))
+        let same = filled-length (g .filled) in
+        let f = filled-more (g .filled) (range pos n) ys e (rw length-range (omega (arith, g .filled .room))) in
+        let d = drop-past whole (range pos n) ys at e in
+        rw (s .written, s .number, same) (rw (zero-add, length-range) at f, rw length-range at d)
 
     pub going-next : {after : List ℕ} (x : ℕ) {r : ℕ} → i < length hs → x ≡ getD hs i 0 → Stretched base pos x at out after r → Going hs span base before whole after (i + 1) (x + 1) r
     unfolding complement
     going-next {after} x {r} l e s =
-        let n = min (x - pos) (length before - at) in
-        let number : r ≡ at + n = rw (g .same) at (s .number) in
-        let left : length before - r ≡ length before - at - (x - pos) = omega (arith, g .fits) in
-        let long : length (g .rows ++ range pos n) ≡ r = length-append (g .rows) (range pos n) ∙ omega (arith, length-range pos n, g .size) in
+        let same = filled-length (g .filled) in
+        let left : length before - r ≡ length before - at - (x - pos) = omega (arith, s .number, g .filled .room) in
         let here : drop i hs ≡ x ∷ drop (suc i) hs = rw e (drop-cons hs i 0 l) in
-        let step : (g .rows ++ range pos n) ++ take (length before - r) (complement (suc x) span (drop (suc i) hs)) ≡ whole =
-        rw (left, append-assoc, ← stretch-front (length before - at) pos x (complement (suc x) span (drop (suc i) hs))) (rw here at (g .rest)) in
-        record {
-          same = ap length (s .written) ∙ simp length-sets (g .same);
-          fits = omega (arith, g .fits);
-          rows = g .rows ++ range pos n;
-          size = long;
-          front = more s;
-          rest = rw (add-one i, add-one x) step;
-        }
+        let step = rw here at (g .rest) ∙ stretch-front (length before - at) pos x (complement (suc x) span (drop (suc i) hs)) in
+        let m = more s step in
+        record { filled = m .0; rest = rw (add-one i, add-one x, left) (m .1) }
 
     -- the holes are passed: what is left is one stretch
     pub going-end : {after : List ℕ} {r : ℕ} → length hs ≤ i → Stretched base pos span at out after r → Walked (moved base whole) before after r
     unfolding complement
     going-end {after} {r} h s =
-        let n = min (span - pos) (length before - at) in
-        let number : r ≡ at + n = rw (g .same) at (s .number) in
         let none : drop i hs ≡ [] = drop-of-length-le hs h in
-        let all : g .rows ++ range pos n ≡ whole = rw (← take-range (length before - at) pos (span - pos)) (rw none at (g .rest)) in
-        let long : length whole ≡ r = sym (ap length all) ∙ length-append (g .rows) (range pos n) ∙ omega (arith, length-range pos n, g .size) in
-        record { written = rw all at (more s); number = sym (length-moved base whole ∙ long) }
+        let m = more s (rw none at (g .rest) ∙ take-range (length before - at) pos (span - pos) ∙ sym (append-nil _)) in
+        filled-all (m .0) (m .1)
 
     -- the output is full
     pub going-full : at ≡ length before → Walked (moved base whole) before out at
-    going-full h =
-        let none : length before - at ≡ 0 = omega arith in
-        let all : g .rows ≡ whole = sym (append-nil (g .rows)) ∙ rw none at (g .rest) in
-        record { written = rw all at (g .front); number = sym (length-moved base whole ∙ rw (← all) (g .size)) }
+    going-full h = let none : length before - at ≡ 0 = omega arith in filled-all (g .filled) (rw none at (g .rest))
 
 -- ---- over the holes of a body
 
@@ -105,4 +76,4 @@ holes-passed body h i l = rw (names-length 2 body h) l
 
 -- the hole that is read
 pub hole-at : (body : List ℕ) (h i : ℕ) {x : ℕ} → i < h → x ≡ le 2 body (i * 2) → x ≡ getD (listNames 2 body h) i 0
-hole-at body h i l e = e ∙ item-at 2 body i ∙ sym (names-at 2 body h i l)
+hole-at body h i l e = e ∙ entry-at 2 body 2 i ∙ sym (names-at 2 body h i l)

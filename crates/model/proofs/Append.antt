@@ -1,18 +1,17 @@
 -- Place and select under append and under a shift.
 -- Assumes nothing.
-use mathlib.Core.Path.{_≡_, refl, sym, ap, ap₂, _∙_}
+use mathlib.Core.Path.{_≡_, refl, sym, ap, _∙_}
 use mathlib.Core.Bool.{Bool, true, false}
-use mathlib.Core.Logic.{_⊎_, ⊎-elim}
+use mathlib.Core.Logic.{⊎-elim}
 use mathlib.Core.List.{List, [], _∷_, _++_}
 use Prim.Native.Nat.{ℕ, zero, suc, _+_, _-_, _<_, _≤_}
 use native.Mathlib.Nat.{zero-add, add-zero, suc-add, add-suc, add-assoc}
 use native.Mathlib.Omega.{arith}
-use lib.ListN.{length, getD, take, drop, length-append, List·getD-append}
+use lib.ListN.{length, getD, take, drop}
 use lib.Seq.{getD-append-add}
 use Rattle.model.specs.Tests.{pick}
 use Rattle.model.specs.Lists.{Rising, none, more, below, has, placeOf, shift, lower}
-use Rattle.model.specs.declared.Place.{Place}
-use Rattle.model.proofs.Tests.{either, order, pick-true, pick-false, same-or-not}
+use Rattle.model.proofs.Tests.{order, pick-true, pick-false, same-or-not}
 use Rattle.model.proofs.Standing.{below-under, below-past, below-none, below-whole, has-here, has-later, has-outside}
 
 -- ---- append
@@ -154,3 +153,10 @@ has-shift b (x ∷ xs) p =
 pub place-shift : (b : ℕ) (xs : List ℕ) (p : ℕ) → placeOf (shift b xs) (b + p) ≡ placeOf xs p
 unfolding placeOf
 place-shift b xs p = rw (below-shift, has-shift)
+
+-- asked by the position of the whole
+pub below-shifted : (b : ℕ) (xs : List ℕ) (p : ℕ) → b ≤ p → below (shift b xs) p ≡ below xs (p - b)
+below-shifted b xs p h = let e : b + (p - b) ≡ p = omega arith in rw e at (below-shift b xs (p - b))
+
+pub has-shifted : (b : ℕ) (xs : List ℕ) (p : ℕ) → b ≤ p → has (shift b xs) p ≡ has xs (p - b)
+has-shifted b xs p h = let e : b + (p - b) ≡ p = omega arith in rw e at (has-shift b xs (p - b))

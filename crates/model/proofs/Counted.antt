@@ -1,12 +1,11 @@
 -- The answers of a check: a test that failed, or all that passed and the one that is left. What an accepted count is.
 -- Assumes nothing.
-use mathlib.Core.Path.{_≡_, refl, sym, _∙_}
-use mathlib.Core.Bool.{Bool, true, false, _&&_}
+use mathlib.Core.Path.{_≡_, refl}
+use mathlib.Core.Bool.{Bool, true, false, _&&_, _||_}
 use Prim.Native.Nat.{ℕ, _<_, _≤_}
 use native.Mathlib.Omega.{arith}
-use lib.Dec.{leb}
 use borrow.Author.Tests.{le-leb, lt-leb, leb-true}
-use Rattle.model.specs.Tests.{both}
+use Rattle.model.specs.Tests.{both, pick}
 use Rattle.model.proofs.Tests.{both-true, both-left, both-right, both-first, both-second}
 use Rattle.model.specs.Lists.{counted}
 
@@ -20,6 +19,18 @@ pub and-both : (a b : Bool) → a && b ≡ both a b
 unfolding both
 and-both true b = refl
 and-both false b = refl
+
+-- and its choice
+pub or-pick : (a b : Bool) → (a || b) ≡ pick a true b
+unfolding pick
+or-pick true b = refl
+or-pick false b = refl
+
+-- a test that holds anyway
+pub both-yes : (a : Bool) → both a true ≡ a
+unfolding both
+both-yes true = refl
+both-yes false = refl
 
 -- what an accepted count is
 pub record Count (span n : ℕ) : Type 0 where

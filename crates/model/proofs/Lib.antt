@@ -1,11 +1,15 @@
 pub mod Tests
+pub mod Counted
+pub mod Sums
+pub mod Windows
 pub mod Rising
 pub mod Standing
 pub mod Append
 pub mod Ranges
+pub mod Taking
 pub mod Pieces
+pub mod Sets
 pub mod Writing
 pub mod Complement
 pub mod Runs
 pub mod Examples
-pub mod Counted

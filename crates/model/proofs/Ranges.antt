@@ -1,17 +1,19 @@
 -- Ranges of positions: length, elements, place.
 -- Assumes nothing.
 use mathlib.Core.Path.{_≡_, refl, sym, ap, _∙_}
-use mathlib.Core.Bool.{Bool, true, false}
-use mathlib.Core.Logic.{_⊎_, ⊎-elim}
-use mathlib.Core.List.{List, [], _∷_, _++_}
+use mathlib.Core.Bool.{true}
+use mathlib.Core.Logic.{⊎-elim}
+use mathlib.Core.List.{List, _++_}
 use Prim.Native.Nat.{ℕ, zero, suc, _+_, _-_, _<_, _≤_, min}
 use native.Mathlib.Nat.{zero-add, add-zero, suc-add, add-suc}
 use native.Mathlib.Omega.{arith}
-use lib.ListN.{length, getD, take, drop}
+use lib.Dec.{ltb}
+use lib.ListN.{length, getD, drop}
+use borrow.Author.Tests.{lt-ltb, le-ltb}
 use Rattle.model.specs.Lists.{Rising, none, more, below, has, range, shift}
-use Rattle.model.proofs.Tests.{order, same-or-not}
-use Rattle.model.proofs.Rising.{rising-wider}
-use Rattle.model.proofs.Standing.{below-under, below-past, below-none, has-here, has-later, has-at, below-at}
+use Rattle.model.proofs.Tests.{order}
+use Rattle.model.proofs.Rising.{rising-room}
+use Rattle.model.proofs.Standing.{below-under, below-past, below-none, has-outside, has-at}
 
 pub length-range : (a n : ℕ) → length (range a n) ≡ n
 unfolding range
@@ -62,3 +64,20 @@ has-range a n p l h =
     let e : a + (p - a) ≡ p = omega arith in
     let i : p - a < n = omega arith in
     rw (getD-range a n (p - a) i, e) at (has-at (range a n) (p - a) (omega (arith, length-range a n)))
+
+-- a position in a range that starts at it or before
+pub has-past : (a n q : ℕ) → a ≤ q → has (range a n) q ≡ ltb (q - a) n
+has-past a n q h =
+    ⊎-elim
+    (λ l. has-range a n q h (omega arith) ∙ sym (lt-ltb (q - a) n l))
+    (λ g. has-outside (range-rising a n) q (λ o. omega (arith, o .1)) ∙ sym (le-ltb (q - a) n g))
+    (order (q - a) n)
+
+-- a rising list that fills its room is the range
+pub rising-full : {a b : ℕ} {xs : List ℕ} → Rising a b xs → a + length xs ≡ b → range a (length xs) ≡ xs
+unfolding range
+rising-full none e = refl
+rising-full {a} {b} (more {x = x} {xs = xs} l h r) e =
+    let q : x ≡ a = omega (arith, rising-room h r) in
+    let rest : range (suc x) (length xs) ≡ xs = rising-full r (omega arith) in
+    rw (← q, rest)

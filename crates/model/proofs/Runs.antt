@@ -1,18 +1,17 @@
 -- Runs: the runs of a list spread to the list, and the runs of spread runs that stand apart are those runs.
 -- Assumes nothing.
 use mathlib.Core.Path.{_≡_, refl, sym, ap, ap₂, _∙_}
-use mathlib.Core.Bool.{Bool, true, false}
-use mathlib.Core.Logic.{_⊎_, ⊎-elim}
+use mathlib.Core.Logic.{⊎-elim}
 use mathlib.Core.List.{List, [], _∷_, _++_, append-nil, append-assoc}
 use Prim.Native.Nat.{ℕ, zero, suc, _+_, _-_, _<_, _≤_, min}
-use native.Mathlib.Nat.{suc-add, add-suc, add-zero, le-trans}
+use native.Mathlib.Nat.{le-trans}
 use native.Mathlib.Omega.{arith}
-use lib.Dec.{eqb}
-use lib.ListN.{length, getD}
+use lib.ListN.{length, getD, length-append}
 use borrow.Author.Tests.{eq-eqb, ne-eqb}
-use Rattle.model.specs.Tests.{pick, tabulate, flat}
+use Rattle.model.specs.Tests.{tabulate, flat, total}
 use Rattle.model.specs.Lists.{Rising, none, more, below, has, range, Run, run, spread, onto, runsOf, Apart, stop, next}
 use Rattle.model.proofs.Tests.{pick-true, pick-false, same-or-not, strictly}
+use Rattle.model.proofs.Sums.{total-front}
 use Rattle.model.proofs.Rising.{rising-append, rising-wider}
 use Rattle.model.proofs.Ranges.{range-rising, below-range, length-range, getD-range}
 use Rattle.model.proofs.Pieces.{Pieces, pieces-place, pieces-select}
@@ -122,3 +121,38 @@ pub spread-select : (f : ℕ → Run) (n i k : ℕ) → i < n → k < f i .size 
 spread-select f n i k h l =
     rw (spread-tabulate f n, spread-tabulate f i)
     (pieces-select (λ (j : ℕ). range (f j .start) (f j .size)) n i k h (rw (length-range (f i .start) (f i .size)) l) ∙ getD-range (f i .start) (f i .size) k l)
+
+-- ---- runs by index
+
+-- run i of a list
+abbrev pub nth : List Run → ℕ → Run
+nth rs i = getD rs i (run 0 0)
+
+abbrev pub sizes : List Run → ℕ → ℕ
+sizes rs i = nth rs i .size
+
+pub record Placed (a b : ℕ) (r : Run) : Type 0 where
+  pub from : a ≤ r .start
+  pub filled : 1 ≤ r .size
+  pub to : r .start + r .size ≤ b
+
+pub apart-at : {a b : ℕ} {rs : List Run} → Apart a b rs → (i : ℕ) → i < length rs → Placed a b (nth rs i)
+apart-at stop i h = absurd (omega arith)
+apart-at (next p q o t) zero h = record { from = p; filled = q; to = o }
+apart-at (next p q o t) (suc i) h = let s = apart-at t i (omega arith) in record { from = omega (arith, s .from); filled = s .filled; to = s .to }
+
+pub apart-next : {a b : ℕ} {rs : List Run} → Apart a b rs → (i : ℕ) → suc i < length rs → nth rs i .start + nth rs i .size < nth rs (suc i) .start
+apart-next stop i h = absurd (omega arith)
+apart-next (next p q o t) zero h = apart-at t 0 (omega arith) .from
+apart-next (next p q o t) (suc i) h = apart-next t i (omega arith)
+
+-- the rows of runs
+pub sizes-total : (rs : List Run) → total (sizes rs) (length rs) ≡ length (spread rs)
+unfolding spread total
+sizes-total [] = refl
+sizes-total (r ∷ rs) = total-front (sizes (r ∷ rs)) (length rs) ∙ rw (sizes-total rs) (sym (length-append (range (r .start) (r .size)) (spread rs) ∙ rw length-range))
+
+-- runs that stand apart, and one more behind them
+pub apart-behind : {a b c : ℕ} {r : Run} {rs : List Run} → Apart a c rs → a ≤ r .start → c < r .start → 1 ≤ r .size → r .start + r .size ≤ b → Apart a b (rs ++ (r ∷ []))
+apart-behind stop l h f e = next l f e stop
+apart-behind {b = b} (next p q o t) l h f e = next {b = b} p q (omega arith) (apart-behind t (omega arith) h f e)

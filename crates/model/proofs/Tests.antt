@@ -1,16 +1,16 @@
 -- Laws of tests that compute, and of what a loop builds. Each once, over the test, the function and the element.
 -- Assumes nothing.
-use mathlib.Core.Path.{_≡_, refl, sym, ap, _∙_}
+use mathlib.Core.Path.{_≡_, refl, sym, _∙_}
 use mathlib.Core.Bool.{Bool, true, false, true≢false, false≢true}
 use mathlib.Core.Logic.{_⊎_, ⊎-elim, inl, inr}
 use mathlib.Core.List.{List, [], _∷_, _++_, append-assoc, append-nil}
-use Prim.Native.Nat.{ℕ, zero, suc, _+_, _-_, _<_, _≤_}
+use Prim.Native.Nat.{ℕ, zero, suc, _+_, _<_, _≤_}
 use native.Mathlib.Nat.{eq-or-lt-of-le, le-of-suc-le-suc}
 use native.Mathlib.Numerals.{add-one}
 use native.Mathlib.Omega.{arith}
-use lib.Dec.{ltb, leb, eqb}
-use lib.ListN.{length, getD, take, drop, length-append, List·getD-append}
-use lib.Seq.{getD-at, getD-append-add}
+use lib.Dec.{ltb, eqb}
+use lib.ListN.{length, getD, length-append, List·getD-append}
+use lib.Seq.{getD-at}
 use borrow.Author.Tests.{ltb-true, ltb-false, eqb-true, eqb-false}
 use Rattle.model.specs.Tests.{both, pick, all, tabulate, flat}
 
@@ -40,6 +40,11 @@ pub same-test : (a b : Bool) → (a ≡ true → b ≡ true) → (b ≡ true →
 same-test true b f g = sym (f refl)
 same-test false true f g = g refl
 same-test false false f g = refl
+
+-- a test that cannot pass
+pub refuse : (b : Bool) → (b ≡ true → ⊥) → false ≡ b
+refuse true h = absurd (h refl)
+refuse false h = refl
 
 -- ---- pick
 

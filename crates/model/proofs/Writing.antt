@@ -1,14 +1,15 @@
--- What a walk writes: the 32-bit shift, and a lent slice with its front written over.
+-- What a walk writes: the 32-bit shift, a lent slice with its front written over, and what a loop has written so far.
 -- Assumes nothing.
 use mathlib.Core.Path.{_≡_, refl, sym, ap, _∙_}
-use mathlib.Core.List.{List, [], _∷_, _++_, append-assoc, append-nil}
+use mathlib.Core.List.{List, [], _∷_, _++_, append-assoc}
 use Prim.Native.Nat.{ℕ, zero, suc, _+_, _-_, _%_, _<_, _≤_}
-use native.Mathlib.Nat.{mod-eq-of-lt, zero-add}
+use native.Mathlib.Nat.{mod-eq-of-lt, add-suc}
 use native.Mathlib.Omega.{arith}
 use lib.ListN.{length, getD, take, drop, set, length-append, length-drop}
-use lib.Seq.{drop-cons, set-at, drop-append-seam, take-append-seam, drop-drop}
-use Rattle.model.specs.Lists.{Rising, none, more, shift, moved, walkOf}
-use Rattle.model.specs.Answers.{over}
+use lib.Seq.{sets, length-sets, drop-cons, set-at, take-all, take-add, length-take-le, drop-append-seam, take-append-seam}
+use Rattle.model.specs.Lists.{Rising, none, more, range, shift, moved, walkOf}
+use Rattle.model.specs.Answers.{over, Walked}
+use Rattle.model.proofs.Sets.{sets-append, sets-front}
 
 -- ---- the 32-bit shift
 
@@ -45,6 +46,14 @@ moved-drop b (suc n) (x ∷ xs) = moved-drop b n xs
 pub moved-walk : {a c : ℕ} {xs : List ℕ} (b : ℕ) → b + c ≤ 4294967296 → Rising a c xs → (k n : ℕ) → moved b (walkOf xs k n) ≡ walkOf (shift b xs) k n
 moved-walk {xs = xs} b h r k n = moved-take b n (drop k xs) ∙ ap (take n) (moved-drop b k xs ∙ ap (drop k) (moved-shift b h r))
 
+-- numbers counted from first are positions counted from base
+pub moved-range : {first : ℕ} (base s a n : ℕ) → first ≡ (base + s) % 4294967296 → moved first (range a n) ≡ moved base (range (s + a) n)
+unfolding moved range
+moved-range base s a zero e = refl
+moved-range {first} base s a (suc n) e =
+    let q : (first + a) % 4294967296 ≡ (base + (s + a)) % 4294967296 = omega arith in
+    rw (q, moved-range base s (suc a) n e, add-suc)
+
 -- ---- the front written over
 
 pub over-none : (xs : List ℕ) → over [] xs ≡ xs
@@ -69,3 +78,69 @@ unfolding over
 over-next front xs i v e h =
     let s : length (front ++ (v ∷ [])) ≡ suc i = length-append front (v ∷ []) ∙ omega arith in
     rw (s, e, drop-cons xs i 0 h) (set-at front (getD xs i 0) (drop (suc i) xs) v i e ∙ sym (append-assoc front (v ∷ []) (drop (suc i) xs)))
+
+-- ---- what a loop has written so far
+
+-- the first `done` of rows stand from at on, counted from base
+pub record Filled (base at : ℕ) (rows before after : List ℕ) (done : ℕ) : Type 0 where
+  pub within : done ≤ length rows
+  pub room : at + done ≤ length before
+  pub holds : after ≡ sets before at (moved base (take done rows))
+
+pub filled-start : (base at : ℕ) (rows before : List ℕ) → at ≤ length before → Filled base at rows before before 0
+unfolding moved
+filled-start base at rows before h = record { within = omega arith; room = omega arith; holds = refl }
+
+module _ {base at : ℕ} {rows before after : List ℕ} {done : ℕ} (f : Filled base at rows before after done) where
+  pub filled-length : length after ≡ length before
+  filled-length = rw (f .holds) (length-sets before at (moved base (take done rows)))
+
+  written-length : length (moved base (take done rows)) ≡ done
+  written-length = length-moved base (take done rows) ∙ length-take-le done rows (f .within)
+
+  -- more is written behind it
+  pub filled-more : (vs rest : List ℕ) → drop done rows ≡ vs ++ rest → at + done + length vs ≤ length before → Filled base at rows before (sets after (at + done) (moved base vs)) (done + length vs)
+  filled-more vs rest e h =
+      let n : length rows - done ≡ length vs + length rest = sym (length-drop done rows) ∙ ap length e ∙ length-append vs rest in
+      let t : take (done + length vs) rows ≡ take done rows ++ vs = rw (take-add, e, take-append-seam) in
+      record {
+        within = omega (arith, f .within);
+        room = omega arith;
+        holds = rw (t, moved-append, sets-append, written-length, f .holds);
+      }
+
+  -- one more
+  pub filled-next : {k v : ℕ} (x : ℕ) → done < length rows → getD rows done 0 ≡ x → k ≡ at + done → k < length before → v ≡ (base + x) % 4294967296 → Filled base at rows before (set after k v) (done + 1)
+  unfolding moved
+  filled-next x l g e h q = rw (e, q, ← g) (filled-more (getD rows done 0 ∷ []) (drop (suc done) rows) (drop-cons rows done 0 l) (omega arith))
+
+  -- all of them
+  pub filled-whole : length rows ≤ done → after ≡ sets before at (moved base rows)
+  filled-whole h = rw (take-all done rows h) at (f .holds)
+
+-- ---- a walk
+
+-- the values ws were written from 0 on
+pub walked : (base : ℕ) (rows ws : List ℕ) {before out : List ℕ} {n : ℕ} → rows ≡ ws → out ≡ sets before 0 (moved base ws) → length ws ≡ n → n ≤ length before → Walked (moved base rows) before out n
+walked base rows ws {before} {out} {n} q e l h =
+    let size : length (moved base ws) ≡ n = length-moved base ws ∙ l in
+    rw q (record { written = e ∙ sets-front (moved base ws) before (omega arith); number = sym size })
+
+module _ {base : ℕ} {rows before after : List ℕ} {done : ℕ} (f : Filled base 0 rows before after done) where
+  -- nothing is left to write
+  pub filled-all : drop done rows ≡ [] → Walked (moved base rows) before after done
+  filled-all e =
+      let n : length rows - done ≡ 0 = sym (length-drop done rows) ∙ ap length e in
+      walked base rows rows refl (filled-whole f (omega arith)) (omega (arith, f .within)) (omega (arith, f .room))
+
+  -- of as many as fit
+  pub filled-end : drop done rows ≡ [] → Walked (moved base (take (length before) rows)) before after done
+  filled-end e =
+      let n : length rows - done ≡ 0 = sym (length-drop done rows) ∙ ap length e in
+      rw (take-all (length before) rows (omega (arith, f .room))) (filled-all e)
+
+  -- or no room
+  pub filled-full : length before ≤ done → Walked (moved base (take (length before) rows)) before after done
+  filled-full h =
+      let e : length before ≡ done = omega (arith, f .room) in
+      walked base (take (length before) rows) (take done rows) (rw e) (f .holds) (length-take-le done rows (f .within)) (omega arith)

@@ -12,11 +12,10 @@ use Rattle.fields.proofs.Laws.{digits-le}
 use Rattle.model.specs.Tests.{tabulate}
 use Rattle.model.specs.Lists.{range, Run, spread, Apart, stop, next}
 use Rattle.model.proofs.Ranges.{length-range}
-use Rattle.model.proofs.Runs.{runsOf-spread, spread-tabulate}
+use Rattle.model.proofs.Runs.{runsOf-spread, spread-tabulate, apart-behind}
 use Rattle.search.specs.Search.{entry}
+use Rattle.search.proofs.Entries.{slot}
 use Rattle.runs.specs.Runs.{strideOf, runStart, runSize, runBefore, runAt, runsNames, least, runsBytes, runsLayout}
-use Rattle.runs.proofs.General.{apart-behind}
-use Rattle.runs.proofs.Table.{inside}
 use Rattle.runs.proofs.Parts.{Parts, some-run}
 use Rattle.runs.proofs.Names.{names-total}
 
@@ -65,7 +64,7 @@ module _ {w : ℕ} {xs : List ℕ} {span count n : ℕ} (p : Parts w xs span cou
   bytes-to b zero h = rw zero-mul
   bytes-to b (suc m) h =
       let rows : 0 + length (spread (tabulate (runAt w xs) m)) ≡ runBefore w xs m = zero-add _ ∙ ap length (sym (names-spread w xs m)) ∙ names-total w xs m ∙ sym (p .fit m h .exact) in
-      let room : (m + 1) * strideOf w ≤ length xs = inside w m (native.Mathlib.Nat.le-of-eq (p .sized)) h in
+      let room : (m + 1) * strideOf w ≤ length xs = slot (strideOf w) m (native.Mathlib.Nat.le-of-eq (p .sized)) h in
       bytes-behind w 0 (tabulate (runAt w xs) m) (runAt w xs m)
       ∙ rw (rows, bytes-to b m (omega arith), entry-bytes w xs m b room, suc-mul) (sym (take-add (m * strideOf w) (strideOf w) xs))
 

@@ -6,27 +6,19 @@ use Prim.Native.Nat.{ℕ, suc, _+_, _-_, _%_, _<_, _≤_, min}
 use native.Mathlib.Nat.{zero-add, add-zero}
 use native.Mathlib.Numerals.{add-one}
 use native.Mathlib.Omega.{arith}
-use lib.ListN.{length, take, drop, set}
-use lib.Seq.{sets, drop-drop, drop-append-seam, take-nil}
-use Rattle.fields.proofs.Laws.{sets-append}
+use lib.ListN.{length, take, drop}
+use lib.Seq.{sets, take-nil}
 use Rattle.model.specs.Lists.{range, moved}
 use Rattle.model.specs.Answers.{over, Walked}
 use Rattle.model.proofs.Ranges.{length-range, range-append}
-use Rattle.model.proofs.Writing.{length-moved, moved-append}
+use Rattle.model.proofs.Taking.{drop-past}
+use Rattle.model.proofs.Writing.{moved-range, Filled, filled-start, filled-length, filled-more, filled-end}
 use Rattle.runs.specs.Runs.{runStart, runSize, runBefore}
 use Rattle.runs.specs.Asked.{entryOf, beforeTo, runsFrom, runsRest, runsWalk}
 use Rattle.runs.specs.declared.Entry.{Entry}
-use Rattle.runs.proofs.General.{moved-range, Filled, filled-start, filled-length, filled-more, filled-end}
 use Rattle.runs.proofs.Found.{last-none, last-some}
 
--- ---- one run: j numbers from first on stand at `at`
-
-pub written-next : (out : List ℕ) (at first j : ℕ) {v : ℕ} → v ≡ (first + j) % 4294967296
-    → set (sets out at (moved first (range 0 j))) (at + j) v ≡ sets out at (moved first (range 0 (j + 1)))
-unfolding moved range
-written-next out at first j e =
-    let n : length (moved first (range 0 j)) ≡ j = length-moved first (range 0 j) ∙ length-range 0 j in
-    rw (range-append 0 j 1, moved-append, sets-append, n, zero-add, e)
+-- ---- one run: the numbers from first on are its positions, counted from base
 
 pub written-end : (out : List ℕ) (at base start skip n : ℕ) {f first : ℕ} → f ≡ (base + start) % 4294967296 → first ≡ (f + skip) % 4294967296
     → sets out at (moved first (range 0 n)) ≡ sets out at (moved base (range (start + skip) n))
@@ -37,11 +29,11 @@ written-end out at base start skip n {f} {first} p q =
 -- ---- the walk at run i, of which `left` positions are to be left out
 
 pub record Walking (w : ℕ) (xs : List ℕ) (n base : ℕ) (rows before after : List ℕ) (left done i : ℕ) : Type 0 where
-  pub filled : Filled base rows before after done
+  pub filled : Filled base 0 rows before after done
   pub rest : runsFrom w xs (n - i) i left ≡ drop done rows
 
 pub walking-start : (w : ℕ) (xs : List ℕ) (n base : ℕ) (before : List ℕ) (i skip : ℕ) → Walking w xs n base (runsFrom w xs (n - i) i skip) before before skip 0 i
-walking-start w xs n base before i skip = record { filled = filled-start base _ before; rest = refl }
+walking-start w xs n base before i skip = record { filled = filled-start base 0 _ before (omega arith); rest = refl }
 
 module _ {w : ℕ} {xs : List ℕ} {n base : ℕ} {rows before after : List ℕ} {left done i : ℕ} (s : Walking w xs n base rows before after left done i) where
   here : i < n → drop done rows ≡ range (runStart w xs i + left) (runSize w xs i - left) ++ runsFrom w xs (n - (i + 1)) (i + 1) 0
@@ -60,7 +52,7 @@ module _ {w : ℕ} {xs : List ℕ} {n base : ℕ} {rows before after : List ℕ}
     start-is = ap (λ (x : Entry). x .start) q
 
     -- what was written of the run, and what was not
-    pub walking-wrote : {out : List ℕ} → out ≡ sets after done (moved base (range (e .start + left) r)) → Filled base rows before out (done + r)
+    pub walking-wrote : {out : List ℕ} → out ≡ sets after done (moved base (range (e .start + left) r)) → Filled base 0 rows before out (done + r)
     walking-wrote o =
         let z = runSize w xs i - left in
         let a = runStart w xs i + left in
@@ -69,7 +61,7 @@ module _ {w : ℕ} {xs : List ℕ} {n base : ℕ} {rows before after : List ℕ}
         let c : range a z ≡ range a r ++ range (a + r) (z - r) = ap (λ (k : ℕ). range a k) y ∙ range-append a r (z - r) in
         let d : drop done rows ≡ range a r ++ (range (a + r) (z - r) ++ runsFrom w xs (n - (i + 1)) (i + 1) 0) = here l ∙ rw (c, append-assoc) in
         let f = filled-more (s .filled) (range a r) _ d (rw length-range (omega (arith, s .filled .room))) in
-        rw (o, start-is) (rw length-range at f)
+        rw (o, start-is) (rw (zero-add, length-range) at f)
 
     pub walking-next : (done + r ≡ length before → ⊥) → runsFrom w xs (n - (i + 1)) (i + 1) 0 ≡ drop (done + r) rows
     walking-next d =
@@ -77,7 +69,7 @@ module _ {w : ℕ} {xs : List ℕ} {n base : ℕ} {rows before after : List ℕ}
         let a = runStart w xs i + left in
         let t = filled-length (s .filled) in
         let k : r ≡ length (range a z) = omega (arith, size-is, length-range a z, s .filled .room, d) in
-        rw (← drop-drop r done rows, here l, k, drop-append-seam)
+        rw k (sym (drop-past rows (range a z) _ done (here l)))
 
   pub walking-end : n ≤ i → Walked (moved base (take (length before) rows)) before after done
   unfolding runsFrom

@@ -3,42 +3,27 @@
 use mathlib.Core.Path.{_≡_, refl, sym, ap, _∙_}
 use mathlib.Core.Bool.{true}
 use mathlib.Core.List.{List, [], _∷_, _++_, append-assoc}
-use Prim.Native.Nat.{ℕ, zero, suc, _+_, _-_, _*_, _%_, _^_, _<_, _≤_}
+use Prim.Native.Nat.{ℕ, zero, suc, _+_, _*_, _%_, _^_, _<_, _≤_}
 use native.Mathlib.Nat.{zero-add, add-zero, zero-mul, suc-mul, mul-div-cancel, mod-eq-of-lt}
 use native.Mathlib.Omega.{arith}
-use lib.ListN.{length, getD, length-append, List·getD-append}
-use lib.Seq.{getD-append-add, ext-getD}
-use Rattle.fields.specs.Le.{le, digits}
-use Rattle.fields.proofs.Laws.{le-same, le-digits, length-digits}
+use lib.ListN.{length, length-append}
+use lib.Seq.{ext-getD}
+use Rattle.fields.specs.Le.{digits}
+use Rattle.fields.proofs.Laws.{length-digits}
+use Rattle.fields.proofs.Tables.{le-behind}
 use Rattle.model.specs.Tests.{tabulate, total}
 use Rattle.model.specs.Lists.{Rising, Run, run, spread, runsOf, Apart}
 use Rattle.model.proofs.Tests.{length-tabulate, getD-tabulate}
+use Rattle.model.proofs.Sums.{total-within, total-front, total-same}
 use Rattle.model.proofs.Rising.{rising-room}
-use Rattle.model.proofs.Runs.{spread-runsOf, apart-runsOf, spread-rising}
+use Rattle.model.proofs.Runs.{spread-runsOf, apart-runsOf, spread-rising, nth, sizes, apart-at, apart-next, sizes-total}
 use Rattle.search.specs.Search.{entry}
+use Rattle.search.proofs.Entries.{entry-behind}
 use Rattle.runs.specs.Runs.{strideOf, runCount, runStart, runSize, runBefore, runAt, runsNames, least, mostOf, runsAccepts, runsBytes, runsLayout}
 use Rattle.runs.proofs.Parts.{Fit, Parts, parts-accepts}
-use Rattle.runs.proofs.General.{nth, sizes, apart-at, apart-next, total-le, total-front, total-same, sizes-total}
 use Rattle.runs.proofs.Back.{names-spread}
 
 -- ---- the fields of laid out runs
-
-le-behind : (n v at : ℕ) (pre post : List ℕ) → length pre ≡ at → le n (pre ++ digits n v ++ post) at ≡ v % 256 ^ n
-le-behind n v at pre post e = le-same n (pre ++ digits n v ++ post) (digits n v) at 0 same ∙ le-digits n v
-  where
-    same : (i : ℕ) → i < n → getD (pre ++ digits n v ++ post) (at + i) 0 ≡ getD (digits n v) (0 + i) 0
-    same i l =
-        List·getD-append (pre ++ digits n v) post 0 (at + i) (rw length-append (omega (arith, length-digits n v)))
-        ∙ rw (← e, zero-add) (getD-append-add pre (digits n v) i 0)
-
-entry-behind : (v base s : ℕ) (head xs : List ℕ) (i : ℕ) → length head ≡ s → entry v (head ++ xs) base s (suc i) ≡ entry v xs base s i
-unfolding entry
-entry-behind v base s head xs i e = le-same v (head ++ xs) xs (base + suc i * s) (base + i * s) same
-  where
-    same : (j : ℕ) → j < v → getD (head ++ xs) (base + suc i * s + j) 0 ≡ getD xs (base + i * s + j) 0
-    same j l =
-        let q : base + suc i * s + j ≡ length head + (base + i * s + j) = rw suc-mul (omega arith) in
-        ap (λ (k : ℕ). getD (head ++ xs) k 0) q ∙ getD-append-add head xs (base + i * s + j) 0
 
 head-length : (w s z b : ℕ) → length (digits w s ++ digits 2 z ++ digits 2 b) ≡ strideOf w
 head-length w s z b = simp (length-append, length-digits) (omega arith)
@@ -90,8 +75,7 @@ laid w b (r ∷ rs) (suc i) h =
 
 module _ (w span : ℕ) {rs : List Run} (a : Apart 0 (mostOf w span) rs) (some : 1 ≤ length (spread rs)) (few : length (spread rs) ≤ 65535) where
   rows-to : (i : ℕ) → i < length rs → total (sizes rs) i + sizes rs i ≤ 65535
-  unfolding total
-  rows-to i l = omega (arith, few, sizes-total rs, total-le (sizes rs) (suc i) (length rs) l)
+  rows-to i l = omega (arith, few, sizes-total rs, total-within (sizes rs) i (length rs) l)
 
   start-at : (i : ℕ) → i < length rs → runStart w (runsBytes w 0 rs) i ≡ nth rs i .start
   unfolding mostOf

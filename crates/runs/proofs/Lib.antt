@@ -1,4 +1,3 @@
-pub mod General
 pub mod Table
 pub mod Parts
 pub mod Found

@@ -1,7 +1,7 @@
 -- On an accepted body of runs: what it names rises below the span and has count rows, and place, select and walk are those of that list.
 -- Assumes nothing.
-use mathlib.Core.Path.{_≡_, refl, sym, ap, _∙_}
-use mathlib.Core.Bool.{true, false}
+use mathlib.Core.Path.{_≡_, sym, ap, _∙_}
+use mathlib.Core.Bool.{false}
 use mathlib.Core.Logic.{_⊎_, ⊎-elim, inl, inr}
 use mathlib.Core.List.{List, [], _++_, append-assoc, append-nil}
 use Prim.Native.Nat.{ℕ, zero, suc, _+_, _-_, _%_, _<_, _≤_}
@@ -9,18 +9,17 @@ use native.Mathlib.Nat.{add-zero, sub-zero, mod-eq-of-lt}
 use native.Mathlib.Omega.{arith}
 use lib.ListN.{length, getD, drop}
 use lib.Seq.{drop-append-add, drop-append-le}
-use borrow.Author.Tests.{leb-true, leb-false}
 use Rattle.model.specs.Tests.{flat, total}
 use Rattle.model.specs.Lists.{Rising, below, placeOf, walkOf, range, moved}
-use Rattle.model.proofs.Tests.{last-or-before, flat-length-step}
+use Rattle.model.proofs.Sums.{total-le, flat-total}
+use Rattle.model.proofs.Windows.{windows-apart, windows-level}
 use Rattle.model.proofs.Rising.{rising-wider}
-use Rattle.model.proofs.Ranges.{length-range, getD-range, range-rising, range-drop, below-range}
+use Rattle.model.proofs.Ranges.{length-range, getD-range, range-rising, range-drop, below-range, has-past}
 use Rattle.model.proofs.Pieces.{Pieces, pieces-rising, pieces-none, pieces-place, pieces-select}
-use Rattle.search.specs.Search.{upTo, allowed, Cut}
-use Rattle.search.proofs.Laws.{find-cut, falls-level}
+use Rattle.search.specs.Search.{upTo, Cut}
+use Rattle.search.proofs.Laws.{find-cut, falls-level, at-most, above}
 use Rattle.runs.specs.Runs.{runStart, runSize, runBefore, runsNames, least, mostOf}
 use Rattle.runs.specs.Asked.{entryOf, startsTo, beforeTo, lastOf, placeIn, runsPlace, nthOf, runsSelect, runsFrom, runsRest, runsWalk}
-use Rattle.runs.proofs.General.{total-le, has-past}
 use Rattle.runs.proofs.Parts.{Parts, some-run}
 
 -- the positions of run i
@@ -31,9 +30,8 @@ piece w xs = λ (i : ℕ). range (runStart w xs i) (runSize w xs i)
 
 -- as many positions as the lengths say
 pub names-total : (w : ℕ) (xs : List ℕ) (n : ℕ) → length (runsNames w xs n) ≡ total (runSize w xs) n
-unfolding runsNames total flat
-names-total w xs zero = refl
-names-total w xs (suc n) = flat-length-step (piece w xs) n ∙ rw (length-range, names-total w xs n)
+unfolding runsNames
+names-total w xs n = flat-total (piece w xs) (runSize w xs) n (λ i l. length-range (runStart w xs i) (runSize w xs i))
 
 -- the first i runs, and the rest
 pub names-split : (w : ℕ) (xs : List ℕ) (i m : ℕ) → runsNames w xs (i + m) ≡ runsNames w xs i ++ runsFrom w xs m i 0
@@ -47,16 +45,15 @@ names-split w xs i (suc m) =
 
 module _ {w : ℕ} {xs : List ℕ} {span count n : ℕ} (p : Parts w xs span count n) where
   -- a run ends before the next starts
-  ends-before : (i j : ℕ) → i < j → j < n → runStart w xs i + runSize w xs i < runStart w xs j
+  next-free : (i : ℕ) → suc i < n → suc (runStart w xs i + runSize w xs i) ≤ runStart w xs (suc i)
   unfolding least
-  ends-before i zero l h = absurd (omega arith)
-  ends-before i (suc j) l h =
-      let step : runStart w xs j + runSize w xs j < runStart w xs (suc j) = p .fit (suc j) h .free in
-      ⊎-elim (λ (e : i ≡ j). rw e step) (λ (q : i < j). omega (arith, ends-before i j q (omega arith))) (last-or-before l)
+  next-free i h = p .fit (suc i) h .free
+
+  ends-before : (i j : ℕ) → i < j → j < n → runStart w xs i + runSize w xs i < runStart w xs j
+  ends-before = windows-apart (runStart w xs) (λ (i : ℕ). suc (runStart w xs i + runSize w xs i)) n (λ i l. omega arith) next-free
 
   starts-rise : (i j : ℕ) → i ≤ j → j < n → runStart w xs i ≤ runStart w xs j
-  starts-rise i j l h =
-      ⊎-elim (λ (e : i ≡ j). rw e (omega arith)) (λ (q : i < j). omega (arith, ends-before i j q h)) (native.Mathlib.Nat.eq-or-lt-of-le l)
+  starts-rise = windows-level (runStart w xs) (λ (i : ℕ). suc (runStart w xs i + runSize w xs i)) n (λ i l. omega arith) next-free
 
   before-rise : (i j : ℕ) → i ≤ j → j < n → runBefore w xs i ≤ runBefore w xs j
   before-rise i j l h = rw (p .fit i (omega arith) .exact, p .fit j h .exact) (total-le (runSize w xs) i j l)
@@ -80,27 +77,18 @@ module _ {w : ℕ} {xs : List ℕ} {span count n : ℕ} (p : Parts w xs span cou
   pub names-length : length (runsNames w xs n) ≡ count
   names-length = names-total w xs n ∙ p .sum
 
--- the tests of the two searches, as numbers
-passed : (f : ℕ → ℕ) (key i : ℕ) → upTo false f key i ≡ true → f i ≤ key
-unfolding upTo allowed
-passed f key i e = leb-true (f i) key e
-
-failed : (f : ℕ → ℕ) (key i : ℕ) → upTo false f key i ≡ false → key < f i
-unfolding upTo allowed
-failed f key i e = leb-false (f i) key e
-
 -- ---- T4
 
 module _ {w : ℕ} {xs : List ℕ} {span count n : ℕ} (p : Parts w xs span count n) where
   place-by : (q f : ℕ) → Cut (upTo false (runStart w xs) q) n f → lastOf (record { below = 0; present = false }) (λ (i : ℕ). placeIn (entryOf w xs i) q) f ≡ placeOf (runsNames w xs n) q
   unfolding lastOf placeOf runsNames placeIn entryOf
   place-by q zero c =
-      let s = pieces-none n (pieces p) q (λ i l. failed (runStart w xs) q i (c .from i (omega arith) l)) in
+      let s = pieces-none n (pieces p) q (λ i l. above (runStart w xs) q i (c .from i (omega arith) l)) in
       rw (s .0, s .1)
   place-by q (suc i) c =
       let l : i < n = c .within in
-      let h : runStart w xs i ≤ q = passed (runStart w xs) q i (c .below i (omega arith)) in
-      let s = pieces-place n (pieces p) q i l h (λ j g d. failed (runStart w xs) q j (c .from j g d)) in
+      let h : runStart w xs i ≤ q = at-most (runStart w xs) q i (c .below i (omega arith)) in
+      let s = pieces-place n (pieces p) q i l h (λ j g d. above (runStart w xs) q j (c .from j g d)) in
       let b : length (flat (piece w xs) i) ≡ runBefore w xs i = before-is p i l in
       rw (s .0, s .1, b, below-range, has-past (runStart w xs i) (runSize w xs i) q h)
 
@@ -115,15 +103,15 @@ module _ {w : ℕ} {xs : List ℕ} {span count n : ℕ} (p : Parts w xs span cou
       ⊎-elim
       (λ (e : suc i ≡ n). inr e)
       (λ (l : suc i < n).
-      let u : k < runBefore w xs (suc i) = failed (runBefore w xs) k (suc i) (c .from (suc i) (omega arith) l) in
-      let v : runBefore w xs i ≤ k = passed (runBefore w xs) k i (c .below i (omega arith)) in
+      let u : k < runBefore w xs (suc i) = above (runBefore w xs) k (suc i) (c .from (suc i) (omega arith) l) in
+      let v : runBefore w xs i ≤ k = at-most (runBefore w xs) k i (c .below i (omega arith)) in
       inl (omega (arith, p .fit i (omega arith) .exact, p .fit (suc i) l .exact)))
       (native.Mathlib.Nat.eq-or-lt-of-le (c .within))
 
   -- ordinal 0 has a run
   first-run : (k : ℕ) → Cut (upTo false (runBefore w xs) k) n 0 → ⊥
   unfolding total
-  first-run k c = omega (arith, failed (runBefore w xs) k 0 (c .from 0 (omega arith) (some-run p)), p .fit 0 (some-run p) .exact)
+  first-run k c = omega (arith, above (runBefore w xs) k 0 (c .from 0 (omega arith) (some-run p)), p .fit 0 (some-run p) .exact)
 
   before-cut : (k : ℕ) → Cut (upTo false (runBefore w xs) k) n (beforeTo w xs n k)
   unfolding beforeTo
@@ -137,7 +125,7 @@ module _ {w : ℕ} {xs : List ℕ} {span count n : ℕ} (p : Parts w xs span cou
       let x = runStart w xs i in
       let z = runSize w xs i in
       let b = runBefore w xs i in
-      let v : b ≤ k = passed (runBefore w xs) k i (c .below i (omega arith)) in
+      let v : b ≤ k = at-most (runBefore w xs) k i (c .below i (omega arith)) in
       let f = p .fit i l in
       let o : k - b < z = ⊎-elim (λ q. q) (λ (e : suc i ≡ n). omega (arith, f .exact, p .sum, ap (λ (m : ℕ). total (runSize w xs) m) e)) (holds k i c) in
       let m : (x + (k - b)) % 4294967296 ≡ x + (k - b) = mod-eq-of-lt (omega (arith, f .within)) in
@@ -158,7 +146,7 @@ module _ {w : ℕ} {xs : List ℕ} {span count n : ℕ} (p : Parts w xs span cou
       let s = k - runBefore w xs i in
       let m = n - suc i in
       let r = runsFrom w xs m (suc i) 0 in
-      let v : runBefore w xs i ≤ k = passed (runBefore w xs) k i (c .below i (omega arith)) in
+      let v : runBefore w xs i ≤ k = at-most (runBefore w xs) k i (c .below i (omega arith)) in
       let g : n - i ≡ suc m = omega arith in
       let a : n ≡ i + suc m = omega arith in
       let e : k ≡ length (runsNames w xs i) + s = rw (before-is p i l) (omega arith) in

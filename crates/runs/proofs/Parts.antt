@@ -1,17 +1,17 @@
 -- An accepted body of runs taken apart, and what the check's early answers are of the whole test.
 -- Assumes nothing.
-use mathlib.Core.Path.{_≡_, sym, ap, _∙_}
+use mathlib.Core.Path.{_≡_, ap, _∙_}
 use mathlib.Core.Bool.{Bool, true, false}
-use mathlib.Core.Logic.{_⊎_, ⊎-elim}
+use mathlib.Core.Logic.{⊎-elim}
 use mathlib.Core.List.{List}
-use Prim.Native.Nat.{ℕ, _+_, _-_, _*_, _/_, _<_, _≤_}
+use Prim.Native.Nat.{ℕ, _+_, _*_, _/_, _<_, _≤_}
 use native.Mathlib.Omega.{arith}
 use lib.ListN.{length}
 use borrow.Author.Tests.{leb-true, eqb-true, le-leb, eq-eqb}
 use Rattle.model.specs.Tests.{total}
+use Rattle.model.proofs.Sums.{total-least}
 use Rattle.model.proofs.Counted.{Count, counted-count, counted-right, both-pass}
-use Rattle.model.proofs.Tests.{either, order, both-true, both-left, both-right, all-at, all-from}
-use Rattle.runs.proofs.General.{total-least}
+use Rattle.model.proofs.Tests.{order, refuse, both-true, both-left, both-right, all-at, all-from}
 use Rattle.runs.specs.Runs.{strideOf, runCount, runStart, runSize, runBefore, least, fits, runFits, mostOf, runsStand, runsAccepts}
 
 -- ---- one run
@@ -66,22 +66,19 @@ some-run {n = n} p = ⊎-elim (λ l. l) (λ (g : n ≤ 0). let e : n ≡ 0 = ome
 -- ---- the answers of the check
 
 module _ (w : ℕ) (xs : List ℕ) (span count : ℕ) where
-  refuse : (runsAccepts w xs span count ≡ true → ⊥) → false ≡ runsAccepts w xs span count
-  refuse h = ⊎-elim (λ e. absurd (h e)) (λ e. sym e) (either (runsAccepts w xs span count))
-
   pub check-none : count ≡ 0 → false ≡ runsAccepts w xs span count
-  check-none z = refuse (λ e. omega (arith, accepts-parts w xs span count e .counts .some))
+  check-none z = refuse _ (λ e. omega (arith, accepts-parts w xs span count e .counts .some))
 
   pub check-over : span < count → false ≡ runsAccepts w xs span count
-  check-over l = refuse (λ e. omega (arith, accepts-parts w xs span count e .counts .within))
+  check-over l = refuse _ (λ e. omega (arith, accepts-parts w xs span count e .counts .within))
 
   pub check-many : (n : ℕ) → n ≡ length xs / strideOf w → count < n → false ≡ runsAccepts w xs span count
   unfolding runCount
-  check-many n q l = refuse (λ e. omega (arith, parts-few (accepts-parts w xs span count e)))
+  check-many n q l = refuse _ (λ e. omega (arith, parts-few (accepts-parts w xs span count e)))
 
   pub check-size : (n size : ℕ) → n ≡ length xs / strideOf w → size ≡ n * strideOf w → (size ≡ length xs → ⊥) → false ≡ runsAccepts w xs span count
   unfolding runCount
-  check-size n size q s d = refuse (λ e. d (s ∙ ap (λ (m : ℕ). m * strideOf w) q ∙ accepts-parts w xs span count e .sized))
+  check-size n size q s d = refuse _ (λ e. d (s ∙ ap (λ (m : ℕ). m * strideOf w) q ∙ accepts-parts w xs span count e .sized))
 
   pub check-stand : {n size most : ℕ} {r : Bool} → n ≡ length xs / strideOf w → size ≡ n * strideOf w → Count span count → size ≡ length xs
       → most ≡ mostOf w span → r ≡ runsStand w xs most count n → r ≡ runsAccepts w xs span count

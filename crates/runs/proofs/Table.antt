@@ -3,8 +3,8 @@
 use mathlib.Core.Path.{_≡_, refl, ap}
 use mathlib.Core.Bool.{Bool, true, _&&_}
 use mathlib.Core.List.{List}
-use Prim.Native.Nat.{ℕ, _+_, _-_, _*_, _/_, _<_, _≤_}
-use native.Mathlib.Nat.{zero-add, le-trans, mul-le-mul-right, div-mul-le-self}
+use Prim.Native.Nat.{ℕ, _+_, _*_, _/_, _<_, _≤_}
+use native.Mathlib.Nat.{zero-add, div-mul-le-self}
 use native.Mathlib.Numerals.{add-one}
 use native.Mathlib.Omega.{arith}
 use lib.Dec.{leb, eqb}
@@ -30,10 +30,6 @@ entry-is w xs i a v s n b = rw (s, n, b, a, v, zero-add)
 -- the entries that the bytes hold are inside
 pub held : (bytes w : ℕ) {n : ℕ} → n ≡ bytes / strideOf w → n * strideOf w ≤ bytes
 held bytes w e = rw e (div-mul-le-self bytes (strideOf w))
-
--- entry i of n that are inside is inside
-pub inside : (w i : ℕ) {n m : ℕ} → n * strideOf w ≤ m → i < n → (i + 1) * strideOf w ≤ m
-inside w i h l = le-trans (mul-le-mul-right (strideOf w) (rw (add-one i) l)) h
 
 -- ---- the loop over the entries: the flag, the least start of the next run, and the rows so far
 pub record Standing (w : ℕ) (xs : List ℕ) (end n i : ℕ) (ok : Bool) (low rows : ℕ) : Type 0 where

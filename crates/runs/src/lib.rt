@@ -17,13 +17,6 @@ pub struct Entry {
     pub before: u16,
 }
 
-// The bytes of a start.
-fn width(wide: bool) -> usize
-    ensures { λ r. ⌜ (r ≡ widthOf wide) × (r ≤ 4) ⌝ }
-{
-    if wide { 4 } else { 2 }
-}
-
 // How many entries so many bytes hold.
 pub fn runs_in(bytes: usize, wide: bool) -> usize
     ensures { λ r. ⌜ r ≡ bytes / strideOf (widthOf wide) ⌝ }
@@ -45,7 +38,7 @@ pub fn read(body: &[u8], i: usize, wide: bool) -> Entry
     ensures { λ r. ⌜ r ≡ entryOf (widthOf wide) (now (body .entry)) i ⌝ }
 {
     let at = offset(i, wide);
-    let w = width(wide);
+    let w = fields::width(wide);
     Entry {
         start: fields::field(body, at, wide),
         size: fields::read16(body, w + at),
@@ -117,7 +110,7 @@ fn starts_to(body: &[u8], runs: usize, p: u32, wide: bool) -> usize
     requires { ⌜ runs * strideOf (widthOf wide) ≤ length (now body) ⌝ }
     ensures { λ r. ⌜ r ≡ startsTo (widthOf wide) (now (body .entry)) runs p ⌝ }
 {
-    search::upper(body, 0, width(wide) + 4, runs, p, wide, false)
+    search::upper(body, 0, fields::width(wide) + 4, runs, p, wide, false)
 }
 
 // Where the search ends for a run that states more than k rows before it.
@@ -125,7 +118,7 @@ fn before_to(body: &[u8], runs: usize, k: u16, wide: bool) -> usize
     requires { ⌜ runs * strideOf (widthOf wide) ≤ length (now body) ⌝ }
     ensures { λ r. ⌜ r ≡ beforeTo (widthOf wide) (now (body .entry)) runs k ⌝ }
 {
-    let w = width(wide);
+    let w = fields::width(wide);
     search::upper(body, w + 2, w + 4, runs, k as u32, false, false)
 }
 

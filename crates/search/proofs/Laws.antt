@@ -1,9 +1,9 @@
 -- What the search finds: over any test, and over a test that falls.
 -- Assumes nothing.
-use mathlib.Core.Path.{_≡_, refl, sym, ap, _∙_, subst}
+use mathlib.Core.Path.{_≡_, refl, sym, _∙_}
 use mathlib.Core.Bool.{Bool, true, false, cond}
 use mathlib.Core.Logic.{⊎-elim}
-use Prim.Native.Nat.{ℕ, zero, suc, _+_, _-_, _*_, _/_, _<_, _≤_}
+use Prim.Native.Nat.{ℕ, zero, suc, _+_, _-_, _<_, _≤_}
 use native.Mathlib.Nat.{eq-or-lt-of-le}
 use native.Mathlib.Omega.{arith}
 use lib.Dec.{leb}
@@ -39,6 +39,15 @@ pub falls-gaps : (f : ℕ → ℕ) (key n : ℕ) → ((i j : ℕ) → i < j → 
 unfolding upTo allowed
 falls-gaps f key n m i j p q e =
     ⊎-elim (λ r. rw r e) (λ l. le-leb (f i) (key + i) (omega (arith, m i j l q, leb-true (f j) (key + j) e))) (eq-or-lt-of-le p)
+
+-- the test of field i, as numbers
+pub at-most : (f : ℕ → ℕ) (key i : ℕ) → upTo false f key i ≡ true → f i ≤ key
+unfolding upTo allowed
+at-most f key i e = leb-true (f i) key e
+
+pub above : (f : ℕ → ℕ) (key i : ℕ) → upTo false f key i ≡ false → key < f i
+unfolding upTo allowed
+above f key i e = leb-false (f i) key e
 
 module _ (t : ℕ → Bool) where
   -- nothing left
@@ -191,3 +200,17 @@ module _ (t : ℕ → Bool) where
 
   pub searching-end : (n lo hi : ℕ) → Searching n lo hi → hi ≤ lo → lo ≡ find t 0 n
   searching-end n lo hi s g = sym (find-done lo hi g) ∙ s .same
+
+-- ---- the answer of a call
+
+pub found-within : (t : ℕ → Bool) (n : ℕ) {found : ℕ} → found ≡ find t 0 n → found ≤ n
+found-within t n e = rw e (find-within t n)
+
+-- on any table, the field before the answer is one of the n, and it is at most the key
+
+module _ (f : ℕ → ℕ) (n key : ℕ) {found : ℕ} (e : found ≡ find (upTo false f key) 0 n) (s : found ≡ 0 → ⊥) where
+  pub found-inside : found - 1 < n
+  found-inside = omega (arith, found-within (upTo false f key) n e, s)
+
+  pub found-hit : f (found - 1) ≤ key
+  found-hit = at-most f key (found - 1) (rw e (find-hit (upTo false f key) n (omega (arith, s))))

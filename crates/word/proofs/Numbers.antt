@@ -4,11 +4,14 @@
 use mathlib.Core.Path.{_≡_, refl, sym, ap, _∙_, subst}
 use mathlib.Core.Logic.{⊎-elim}
 use mathlib.Core.List.{List, [], _∷_, _++_}
-use Prim.Native.Nat.{ℕ, zero, suc, _+_, _-_, _*_, _/_, _%_, _^_, _<_}
-use native.Mathlib.Nat.{pow-suc, mod-one, mod-eq-of-lt, eq-or-lt-of-le, le-refl}
+use Prim.Native.Nat.{ℕ, zero, suc, _+_, _-_, _*_, _/_, _%_, _^_, _<_, _≤_}
+use native.Mathlib.Nat.{pow-suc, mod-one, mod-eq-of-lt, eq-or-lt-of-le, le-refl, one-mul, div-lt-iff-lt-mul, div-eq-of-lt}
 use native.Mathlib.Omega.{arith}
+use lib.Dec.{ltb, eqb}
 use lib.Pow.{pow-pos}
+use borrow.Author.Tests.{lt-ltb, le-ltb, eq-eqb, ne-eqb}
 use Rattle.model.specs.Lists.{Rising, none, more}
+use Rattle.model.proofs.Tests.{order, same-or-not}
 use Rattle.model.proofs.Rising.{rising-wider}
 use Rattle.word.specs.Bits.{named, bitsFrom, numFrom}
 use Rattle.word.proofs.Bits.{bits-zero, bits-rising, mod-suc}
@@ -92,3 +95,18 @@ pub num-snoc : (a : ℕ) (l : List ℕ) (p : ℕ) → numFrom a (l ++ (p ∷ [])
 unfolding numFrom
 num-snoc a [] p = omega arith
 num-snoc a (x ∷ l) p = omega (arith, num-snoc a l p)
+
+-- ---- digits above the k lowest
+
+below-pow : (n k : ℕ) → n / 2 ^ k ≡ 0 → n < 2 ^ k
+below-pow n k e =
+    let h : n / 2 ^ k < 1 = omega arith in
+    rw (one-mul (2 ^ k)) at (div-lt-iff-lt-mul (pow-pos k) .0 h)
+
+-- the same test of n and of what is above its k lowest digits
+pub pow-test : (n k : ℕ) → eqb (n / 2 ^ k) 0 ≡ ltb n (2 ^ k)
+pow-test n k =
+    ⊎-elim
+    (λ (e : n / 2 ^ k ≡ 0). eq-eqb _ _ e ∙ sym (lt-ltb _ _ (below-pow n k e)))
+    (λ (z : n / 2 ^ k ≡ 0 → ⊥). ne-eqb _ _ z ∙ sym (le-ltb _ _ (⊎-elim (λ (l : n < 2 ^ k). absurd (z (div-eq-of-lt l))) (λ (g : 2 ^ k ≤ n). g) (order n (2 ^ k)))))
+    (same-or-not (n / 2 ^ k) 0)

@@ -4,8 +4,9 @@ use mathlib.Core.Path.{refl}
 use Prim.Native.Nat.{_-_}
 use native.Mathlib.Omega.{arith}
 use borrow.Author.Needs.{needs}
+use Rattle.model.proofs.Writing.{filled-length, filled-full}
 use Rattle.bitmap.specs.Reading.{restOf}
-use Rattle.bitmap.proofs.Walking.{Filling, filling-start, filling-next, filling-out, filling-full}
+use Rattle.bitmap.proofs.Walking.{Filling, filling-start, filling-next, filling-out}
 use Rattle.bitmap.proofs.fill.Statement.{statement}
 use Rattle.bitmap.proofs.fill.Tie as tie
 
@@ -23,7 +24,7 @@ fill-spec =
     μ-loop
     (λ c. filling-start _ _ _ _ _ _ _ (c .before .before .pre .1) refl)
     (λ c κs. (c .before .before .before .before .pre .0, omega arith))
-    (λ c. c .before .before .before .before .loop .inv .sized)
+    (λ c. filled-length (c .before .before .before .before .loop .inv .filled))
     (λ c. filling-out _ _ _ _ _ _ _ _ _ _ _ (c .before .before .before .before .loop .inv) (c .before .before .settle .ensures) (c .if1 .taken))
     (λ c κs. omega arith)
     (λ c. omega arith)
@@ -31,12 +32,12 @@ fill-spec =
     (λ c. omega (arith, c .before .before .before .before .before .settle .ensures .inside))
     (λ c κs. search needs)
     (λ c. omega arith)
-    (λ c. omega arith)
+    (λ c. let t = c .before .before .before .before .before .before in omega (arith, filled-length (t .before .before .loop .inv .filled)))
     (λ c. omega arith)
     (λ c. omega arith)
     (λ c.
     let t = c .before .before .before .before .before .before in
     rw (c .wrapping-add-u32 .ensures)
     (filling-next _ _ _ _ _ _ _ _ _ _ _ _ _ (t .before .before .loop .inv) (omega arith) (t .settle .ensures) (c .before .before .before .lowest .ensures .0)))
-    (λ c. c .before .loop .inv .sized)
-    (λ c. filling-full _ _ _ _ _ _ _ _ _ (c .before .loop .inv) (omega arith)))
+    (λ c. filled-length (c .before .loop .inv .filled))
+    (λ c. filled-full (c .before .loop .inv .filled) (omega arith)))

@@ -4,7 +4,8 @@ use native.Mathlib.Nat.{zero-add}
 use native.Mathlib.Omega.{arith}
 use borrow.Author.Needs.{needs}
 use Rattle.model.proofs.Ranges.{length-range}
-use Rattle.lists.proofs.Writing.{walk-range, walked}
+use Rattle.model.proofs.Taking.{walk-range}
+use Rattle.model.proofs.Writing.{walked}
 use Rattle.lists.proofs.dense_walk.Statement.{statement}
 use Rattle.lists.proofs.dense_walk.Tie as tie
 

@@ -4,12 +4,14 @@ use mathlib.Core.Path.{_≡_, refl}
 use Prim.Native.Nat.{ℕ, _+_, _-_, _%_}
 use native.Mathlib.Omega.{arith}
 use borrow.Author.Needs.{needs}
-use Rattle.lists.proofs.Writing.{Writing, writing-start, writing-next, writing-end, range-tabulate}
+use Rattle.model.specs.Lists.{range}
+use Rattle.model.proofs.Ranges.{length-range, getD-range}
+use Rattle.model.proofs.Writing.{Filled, filled-start, filled-length, filled-next, filled-whole}
 use Rattle.lists.proofs.fill.Statement.{statement}
 use Rattle.lists.proofs.fill.Tie as tie
 
 abbrev Inv-loop : tie.InvT-loop
-Inv-loop out₀ at base pos size first i₀ out i = Writing (λ (j : ℕ). pos + j) base at size out₀ out i
+Inv-loop out₀ at base pos size first i₀ out i = Filled base at (range pos size) out₀ out i
 
 abbrev μ-loop : tie.MeasureT-loop
 μ-loop out₀ at base pos size first i₀ out i = size - i
@@ -25,15 +27,17 @@ fill-spec =
     Inv-loop
     μ-loop
     (λ c κs. search needs)
-    (λ c. writing-start _ _ _)
+    (λ c. filled-start _ _ _ _ (omega arith))
     (λ c κs. search needs)
     (λ c. omega arith)
     (λ c. omega arith)
     (λ c. omega arith)
-    (λ c. omega (arith, c .before .before .loop .inv .same))
+    (λ c. omega (arith, filled-length (c .before .before .loop .inv)))
     (λ c. omega arith)
     (λ c. omega arith)
-    (λ c. writing-next _ _ _ _ _ (c .before .before .loop .inv) (c .before .loop-test .taken) refl
+    (λ c.
+    let l = c .before .loop-test .taken in
+    filled-next (c .before .before .loop .inv) _ (rw length-range l) (getD-range _ _ _ l) refl (omega arith)
     (summed _ _ _ (c .before .before .before .wrapping-add-u32 .ensures) (c .wrapping-add-u322 .ensures)))
-    (λ c. c .before .loop .inv .same)
-    (λ c. rw range-tabulate (writing-end _ _ _ (c .before .loop .inv) (c .loop-test .left))))
+    (λ c. filled-length (c .before .loop .inv))
+    (λ c. filled-whole (c .before .loop .inv) (rw length-range (c .loop-test .left))))

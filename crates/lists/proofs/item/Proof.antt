@@ -3,7 +3,7 @@
 use mathlib.Core.Path.{_∙_}
 use native.Mathlib.Omega.{arith}
 use Rattle.fields.specs.Le.{widthOf}
-use Rattle.lists.proofs.Slots.{item-at}
+use Rattle.search.proofs.Entries.{entry-at}
 use borrow.Author.Needs.{needs}
 use Rattle.lists.proofs.item.Statement.{statement}
 use Rattle.lists.proofs.item.Tie as tie
@@ -18,5 +18,5 @@ item-spec =
     (λ c. omega (arith, rw (c .if1 .left) at (c .before .before .pre)))
     (λ c κs. omega (arith, rw (c .if1 .left) at (c .before .before .pre)))
     (λ c. search needs)
-    (λ c. rw (c .before .if1 .taken) (c .read32 .ensures ∙ item-at 4 _ _))
-    (λ c. rw (c .before .if1 .left) (c .read16 .ensures ∙ item-at 2 _ _)))
+    (λ c. rw (c .before .if1 .taken) (c .read32 .ensures ∙ entry-at 4 _ 4 _))
+    (λ c. rw (c .before .if1 .left) (c .read16 .ensures ∙ entry-at 2 _ 2 _)))

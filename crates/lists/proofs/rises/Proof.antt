@@ -4,7 +4,7 @@ use Prim.Native.Nat.{_-_}
 use native.Mathlib.Omega.{arith}
 use Rattle.fields.specs.Le.{widthOf}
 use Rattle.lists.specs.Lists.{item}
-use Rattle.lists.proofs.Slots.{slot}
+use Rattle.search.proofs.Entries.{slot}
 use Rattle.lists.proofs.Climbing.{Climbing, climbing-start, climbing-next, rises-none, rises-end}
 use Rattle.lists.proofs.rises.Statement.{statement}
 use Rattle.lists.proofs.rises.Tie as tie
@@ -24,11 +24,11 @@ rises-spec =
     (λ c. rises-none _ _ (c .if1 .taken))
     (λ c. omega arith)
     (λ c. climbing-start _ _)
-    (λ c κs. slot _ _ (c .before .before .before .before .pre) _ (omega arith))
+    (λ c κs. slot _ _ (c .before .before .before .before .pre) (omega arith))
     (λ c. omega arith)
-    (λ c κs. slot _ _ (c .before .before .before .before .before .pre) _ (omega arith))
+    (λ c κs. slot _ _ (c .before .before .before .before .before .pre) (omega arith))
     (λ c. omega arith)
     (λ c. omega arith)
     (λ c. climbing-next _ _ _ (c .before .before .before .loop .inv) (c .before .before .loop-test .taken) (c .before .item .ensures) (c .item2 .ensures))
-    (λ c κs. slot _ _ (c .before .before .before .before .pre) _ (omega arith))
+    (λ c κs. slot _ _ (c .before .before .before .before .pre) (omega arith))
     (λ c. rises-end _ _ _ (c .before .before .before .if1 .left) (c .before .before .loop .inv) (c .before .loop-test .left) (c .item3 .ensures)))

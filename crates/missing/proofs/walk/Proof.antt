@@ -5,6 +5,7 @@ use Prim.Native.Nat.{_-_}
 use native.Mathlib.Omega.{arith}
 use lib.ListN.{length, take}
 use borrow.Author.Needs.{needs}
+use Rattle.model.proofs.Writing.{filled-length}
 use Rattle.lists.specs.Lists.{listNames}
 use Rattle.missing.specs.Missing.{missingFrom, missingSelect}
 use Rattle.missing.proofs.Walking.{Going, going-start, going-next, going-end, going-full, hole-inside, holes-passed, hole-at}
@@ -28,19 +29,19 @@ walk-spec =
     (λ c. search needs)
     (λ c. search needs)
     (λ c. going-start _ _ _ (rw (c .holes-before .ensures)))
-    (λ c. c .before .before .loop .inv .same)
+    (λ c. filled-length (c .before .before .loop .inv .filled))
     (λ c. going-full _ _ _ (c .before .before .loop .inv) (c .if1 .taken))
     (λ c. omega arith)
     (λ c. omega arith)
     (λ c κs. omega arith)
     (λ c. search needs)
-    (λ c κs. omega (arith, c .before .before .before .before .loop .inv .same, c .before .before .before .before .loop .inv .fits))
+    (λ c κs. let f = c .before .before .before .before .loop .inv .filled in omega (arith, filled-length f, f .room))
     (λ c. omega arith)
     (λ c. omega arith)
     (λ c. omega arith)
     (λ c.
     let at = c .before .before .before .before .before .before in
     going-next _ _ _ (at .before .loop .inv) _ (hole-inside _ _ _ (at .loop-test .taken)) (hole-at _ _ _ (at .loop-test .taken) (c .before .before .before .before .read16 .ensures)) (c .before .before .up-to .ensures))
-    (λ c κs. omega (arith, c .before .before .loop .inv .same, c .before .before .loop .inv .fits))
-    (λ c. c .before .before .up-to2 .kept .0 ∙ c .before .before .before .before .before .loop .inv .same)
+    (λ c κs. let f = c .before .before .loop .inv .filled in omega (arith, filled-length f, f .room))
+    (λ c. c .before .before .up-to2 .kept .0 ∙ filled-length (c .before .before .before .before .before .loop .inv .filled))
     (λ c. going-end _ _ _ (c .before .before .before .before .before .loop .inv) (holes-passed _ _ _ (c .before .before .before .before .loop-test .left)) (c .before .before .up-to2 .ensures)))

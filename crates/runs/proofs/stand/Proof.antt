@@ -4,7 +4,8 @@ use Prim.Native.Nat.{_-_}
 use native.Mathlib.Omega.{arith}
 use borrow.Author.Needs.{needs}
 use Rattle.fields.specs.Le.{widthOf}
-use Rattle.runs.proofs.Table.{inside, Standing, standing-start, standing-next, standing-end}
+use Rattle.search.proofs.Entries.{slot}
+use Rattle.runs.proofs.Table.{Standing, standing-start, standing-next, standing-end}
 use Rattle.runs.proofs.stand.Statement.{statement}
 use Rattle.runs.proofs.stand.Tie as tie
 
@@ -22,7 +23,7 @@ stand-spec =
     μ-loop
     (λ c. standing-start _ _ _ _)
     (λ c. omega arith)
-    (λ c κs. inside _ _ (c .before .before .before .pre) (c .loop-test .taken))
+    (λ c κs. slot _ _ (c .before .before .before .pre) (c .loop-test .taken))
     (λ c. search needs)
     (λ c. search needs)
     (λ c κs. search needs)

@@ -2,8 +2,8 @@
 -- Assumes nothing.
 use borrow.Author.Needs.{needs}
 use Rattle.runs.specs.Asked.{entryOf, beforeTo}
-use Rattle.runs.proofs.Table.{inside}
-use Rattle.runs.proofs.Found.{found-inside, found-hit}
+use Rattle.search.proofs.Laws.{found-inside, found-hit}
+use Rattle.search.proofs.Entries.{slot}
 use Rattle.runs.proofs.Filling.{walked-none, walked-rest}
 use Rattle.runs.proofs.walk.Statement.{statement}
 use Rattle.runs.proofs.walk.Tie as tie
@@ -16,7 +16,7 @@ walk-spec =
     (λ c κs. search needs)
     (λ c. walked-none _ _ _ _ _ _ (c .before .before-to .ensures) (c .if1 .taken))
     (λ c. search needs)
-    (λ c κs. inside _ _ (c .before .before .before .before .pre) (found-inside _ _ _ (c .before .before-to .ensures) (c .if1 .left)))
+    (λ c κs. slot _ _ (c .before .before .before .before .pre) (found-inside _ _ _ (c .before .before-to .ensures) (c .if1 .left)))
     (λ c. rw (c .before .read .ensures) (found-hit _ _ _ (c .before .before .before .before-to .ensures) (c .before .before .if1 .left)))
     (λ c. search needs)
     (λ c κs. search needs)

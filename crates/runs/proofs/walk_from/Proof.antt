@@ -5,8 +5,8 @@ use Prim.Native.Nat.{ℕ, _+_, _-_}
 use native.Mathlib.Omega.{arith}
 use Rattle.fields.specs.Le.{widthOf}
 use Rattle.runs.specs.Asked.{runsFrom}
-use Rattle.runs.proofs.Table.{inside}
-use Rattle.runs.proofs.General.{Filled, filled-length, filled-full}
+use Rattle.search.proofs.Entries.{slot}
+use Rattle.model.proofs.Writing.{Filled, filled-length, filled-full}
 use Rattle.runs.proofs.Filling.{Walking, walking-start, walking-wrote, walking-next, walking-end}
 use Rattle.runs.proofs.walk_from.Statement.{statement}
 use Rattle.runs.proofs.walk_from.Tie as tie
@@ -24,7 +24,7 @@ Rows s = runsFrom (widthOf (s .args .wide)) (s .args .body .now) (s .args .runs 
 
 -- what stands in the slice after a run
 after : (c : tie.After-write-run Inv-loop μ-loop) →
-    Filled (c .before .before .before .before .before .before .before .args .base) (Rows (c .before .before .before .before .before .before .before)) (c .before .before .before .before .before .before .before .args .out .now) (c .write-run .last .1 .1 .1 .0) (c .before .before .before .before .loop .done + c .write-run .result)
+    Filled (c .before .before .before .before .before .before .before .args .base) 0 (Rows (c .before .before .before .before .before .before .before)) (c .before .before .before .before .before .before .before .args .out .now) (c .write-run .last .1 .1 .1 .0) (c .before .before .before .before .loop .done + c .write-run .result)
 after c = walking-wrote (c .before .before .before .before .loop .inv) (c .before .before .before .loop-test .taken) (c .before .before .read .ensures) (c .write-run .ensures .0) (c .write-run .ensures .1)
 
 pub walk-from-spec : {M : Type 1} → statement M
@@ -34,11 +34,11 @@ walk-from-spec =
     Inv-loop
     μ-loop
     (λ c. walking-start _ _ _ _ _ _ _)
-    (λ c κs. inside _ _ (c .before .before .before .before .pre) (c .loop-test .taken))
+    (λ c κs. slot _ _ (c .before .before .before .before .pre) (c .loop-test .taken))
     (λ c κs. let s = c .before .before .before .loop .inv .filled in omega (arith, filled-length s, s .room))
     (λ c. let s = c .before .before .before .before .before .before .loop .inv .filled in omega (arith, filled-length s, s .room))
     (λ c. filled-length (after (c .before .before .before)))
-    (λ c. filled-full (after (c .before .before .before)) (c .if1 .taken))
+    (λ c. filled-full (after (c .before .before .before)) (omega arith))
     (λ c. omega arith)
     (λ c. omega arith)
     (λ c. record { filled = after (c .before .before .before); rest = let k = c .before .before .before in walking-next (k .before .before .before .before .loop .inv) (k .before .before .before .loop-test .taken) (k .before .before .read .ensures) (k .write-run .ensures .0) (c .if1 .left) })

@@ -1,24 +1,24 @@
 -- `runs::write_run` meets its contract.
 -- Assumes nothing.
-use mathlib.Core.Path.{_≡_, refl, _∙_}
-use Prim.Native.Nat.{_-_, _≤_}
+use mathlib.Core.Path.{refl, _∙_}
+use Prim.Native.Nat.{_-_}
+use native.Mathlib.Nat.{zero-add}
 use native.Mathlib.Omega.{arith}
-use lib.ListN.{length, length-set}
-use lib.Seq.{sets}
 use borrow.Author.Needs.{needs}
-use Rattle.model.specs.Lists.{range, moved}
-use Rattle.runs.proofs.Filling.{written-next, written-end}
+use Rattle.model.specs.Lists.{range}
+use Rattle.model.proofs.Ranges.{length-range, getD-range}
+use Rattle.model.proofs.Writing.{Filled, filled-start, filled-length, filled-next, filled-whole}
+use Rattle.runs.proofs.Filling.{written-end}
 use Rattle.runs.proofs.write_run.Statement.{statement}
 use Rattle.runs.proofs.write_run.Tie as tie
 
 abbrev Inv-loop : tie.InvT-loop
-Inv-loop skip base out₀ at n first j₀ out j = (j ≤ n) × (length out ≡ length out₀) × (out ≡ sets out₀ at (moved first (range 0 j)))
+Inv-loop skip base out₀ at n first j₀ out j = Filled first at (range 0 n) out₀ out j
 
 abbrev μ-loop : tie.MeasureT-loop
 μ-loop skip base out₀ at n first j₀ out j = n - j
 
 pub write-run-spec : {M : Type 1} → statement M
-unfolding moved range
 write-run-spec =
     tie.close
     (tie.spec
@@ -28,21 +28,21 @@ write-run-spec =
     (λ c κs. search needs)
     (λ c κs. search needs)
     (λ c κs. search needs)
-    (λ c. (omega arith, refl, refl))
+    (λ c. filled-start _ _ _ _ (omega arith))
     (λ c. omega arith)
     (λ c κs. search needs)
     (λ c. omega arith)
     (λ c. omega arith)
-    (λ c. omega arith)
+    (λ c. omega (arith, filled-length (c .before .before .loop .inv)))
     (λ c. omega arith)
     (λ c. omega arith)
     (λ c.
     let l = c .before .before .loop in
-    (omega arith, simp length-set (l .inv .1), rw (l .inv .2) (written-next _ _ _ _ (c .wrapping-add-u323 .ensures))))
-    (λ c. c .before .loop .inv .1)
+    let n = c .before .before .before .before .before .fewer .result in
+    filled-next (l .inv) (l .j) (omega (arith, length-range 0 n)) (getD-range 0 n (l .j) (omega arith) ∙ zero-add (l .j)) refl (omega arith) (c .wrapping-add-u323 .ensures))
+    (λ c. filled-length (c .before .loop .inv))
     (λ c.
     let a = c .before .before .before .before .before .before .args in
     let l = c .before .loop in
     let n = c .before .before .before .before .fewer in
-    let e : l .j ≡ n .result = omega arith in
-    (n .ensures, rw e at (l .inv .2) ∙ written-end (a .out .now) (a .at) _ _ _ (n .result) (c .before .before .before .wrapping-add-u32 .ensures) (c .before .before .wrapping-add-u322 .ensures))))
+    (n .ensures, filled-whole (l .inv) (omega (arith, length-range 0 (n .result))) ∙ written-end (a .out .now) (a .at) _ _ _ (n .result) (c .before .before .before .wrapping-add-u32 .ensures) (c .before .before .wrapping-add-u322 .ensures))))

@@ -1,15 +1,13 @@
 -- Little-endian numbers cut at binary places: the low bytes are the low digits, the high bytes what is above them.
 -- Assumes nothing.
 use mathlib.Core.Path.{_≡_, refl, ap, _∙_}
-use mathlib.Core.List.{List, _++_}
+use mathlib.Core.List.{List}
 use Prim.Native.Nat.{ℕ, zero, suc, _+_, _-_, _*_, _/_, _%_, _^_, _≤_, _<_}
 use native.Mathlib.Nat.{mul-comm, add-comm, pow-suc}
 use native.Mathlib.Omega.{arith}
-use lib.ListN.{length, List·getD-append}
-use lib.Seq.{getD-append-add}
 use lib.Pow.{pow-add, high, low}
 use Rattle.fields.specs.Le.{Bytes, le}
-use Rattle.fields.proofs.Laws.{le-split, le-bound, le-same}
+use Rattle.fields.proofs.Laws.{le-split, le-bound}
 
 pub pow-bytes : (n : ℕ) → 256 ^ n ≡ 2 ^ (8 * n)
 pow-bytes zero = refl
@@ -33,13 +31,3 @@ module _ (xs : List ℕ) (bytes : Bytes xs) where
   le-low n m at h =
       let e : n ≡ m + (n - m) = omega arith in
       ap (λ (x : ℕ). le x xs at % 2 ^ (8 * m)) e ∙ rw (le-cat xs m (n - m) at) (low (le (n - m) xs (at + m)) (8 * m) (le-lt m at))
-
--- ---- in lists one after the other
-
-pub le-first : (n : ℕ) (xs ys : List ℕ) (at : ℕ) → at + n ≤ length xs → le n (xs ++ ys) at ≡ le n xs at
-le-first n xs ys at h = le-same n (xs ++ ys) xs at at (λ i l. List·getD-append xs ys 0 (at + i) (omega arith))
-
-pub le-second : (n : ℕ) (xs ys : List ℕ) (at : ℕ) → le n (xs ++ ys) (length xs + at) ≡ le n ys at
-le-second n xs ys at =
-    le-same n (xs ++ ys) ys (length xs + at) at
-    (λ i l. let e : length xs + at + i ≡ length xs + (at + i) = omega arith in rw e (getD-append-add xs ys (at + i) 0))

@@ -1,9 +1,9 @@
--- `runs::width` meets its contract.
+-- `fields::width` meets its contract.
 -- Assumes nothing.
 use native.Mathlib.Omega.{arith}
 use Rattle.fields.specs.Le.{widthOf}
-use Rattle.runs.proofs.width.Statement.{statement}
-use Rattle.runs.proofs.width.Tie as tie
+use Rattle.fields.proofs.width.Statement.{statement}
+use Rattle.fields.proofs.width.Tie as tie
 
 pub width-spec : {M : Type 1} → statement M
 unfolding widthOf
