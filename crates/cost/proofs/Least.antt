@@ -1,0 +1,151 @@
+-- The least of forms is least: none of those that may be taken has a lesser key, so none is shorter. And a local payload is short.
+-- Assumes nothing.
+use mathlib.Core.Path.{_≡_, refl, sym, ap, _∙_}
+use mathlib.Core.Bool.{Bool, true, false, false≢true}
+use mathlib.Core.Logic.{_⊎_, inl, inr, ⊎-elim}
+use mathlib.Core.List.{List, [], _∷_}
+use Prim.Native.Nat.{ℕ, zero, suc, _+_, _-_, _*_, _<_, _≤_}
+use native.Mathlib.Nat.{le-trans, eq-or-lt-of-le}
+use native.Mathlib.Omega.{arith}
+use lib.Dec.{ltb, lit<}
+use lib.ListN.{length, getD}
+use borrow.Author.Tests.{lt-ltb, le-ltb}
+use Rattle.model.specs.Tests.{pick}
+use Rattle.model.proofs.Tests.{either, order, never, pick-true, pick-false}
+use Rattle.cost.specs.declared.Stats.{Stats}
+use Rattle.cost.specs.declared.Form.{Form}
+use Rattle.cost.specs.Statistics.{spanOf}
+use Rattle.cost.specs.Sizes.{wordsOf, bitmapLength}
+use Rattle.cost.specs.Forms.{itemsForm, bitmapForm, lex, keyOf, lesser, Offer, always, denseForm, least, localOffers, localForm}
+use Rattle.cost.proofs.Choices.{lex-same}
+
+-- ---- keys of one length are in order
+
+more-first : (x y : ℕ) (xs ys : List ℕ) → y < x → lex (x ∷ xs) (y ∷ ys) ≡ false
+unfolding lex pick
+more-first x y xs ys h = rw (le-ltb x y (omega arith), lt-ltb y x h)
+
+less-first : (x y : ℕ) (xs ys : List ℕ) → x < y → lex (x ∷ xs) (y ∷ ys) ≡ true
+unfolding lex pick
+less-first x y xs ys h = rw (lt-ltb x y h)
+
+less-head : (x y : ℕ) (xs ys : List ℕ) → lex (x ∷ xs) (y ∷ ys) ≡ true → x ≤ y
+less-head x y xs ys e = ⊎-elim (λ m. never e (more-first x y xs ys m)) (λ l. l) (order y x)
+
+pub not-less-head : (x y : ℕ) (xs ys : List ℕ) → lex (x ∷ xs) (y ∷ ys) ≡ false → y ≤ x
+not-less-head x y xs ys e = ⊎-elim (λ m. never (less-first x y xs ys m) e) (λ l. l) (order x y)
+
+not-less-self : (xs : List ℕ) → lex xs xs ≡ false
+unfolding lex
+not-less-self [] = refl
+not-less-self (x ∷ xs) = lex-same x x xs xs refl ∙ not-less-self xs
+
+less-not-back : (xs ys : List ℕ) → lex xs ys ≡ true → lex ys xs ≡ false
+unfolding lex
+less-not-back [] ys e = absurd (false≢true e)
+less-not-back (x ∷ xs) [] e = absurd (false≢true e)
+less-not-back (x ∷ xs) (y ∷ ys) e =
+    ⊎-elim
+    (λ (q : x ≡ y). lex-same y x ys xs (sym q) ∙ less-not-back xs ys (sym (lex-same x y xs ys q) ∙ e))
+    (λ l. more-first y x ys xs l)
+    (eq-or-lt-of-le (less-head x y xs ys e))
+
+not-less-on : (xs ys zs : List ℕ) → length xs ≡ length ys → length ys ≡ length zs → lex ys xs ≡ false → lex zs ys ≡ false → lex zs xs ≡ false
+unfolding lex
+not-less-on xs ys [] p q e f = refl
+not-less-on [] [] (z ∷ zs) p q e f = refl
+not-less-on [] (y ∷ ys) (z ∷ zs) p q e f = absurd (omega arith)
+not-less-on (x ∷ xs) [] (z ∷ zs) p q e f = absurd (omega arith)
+not-less-on (x ∷ xs) (y ∷ ys) (z ∷ zs) p q e f =
+    let l : x ≤ y = not-less-head y x ys xs e in
+    let m : y ≤ z = not-less-head z y zs ys f in
+    ⊎-elim
+    (λ (s : x ≡ z).
+    let a : y ≡ x = omega arith in
+    let b : z ≡ y = omega arith in
+    lex-same z x zs xs (sym s) ∙ not-less-on xs ys zs (omega arith) (omega arith) (sym (lex-same y x ys xs a) ∙ e) (sym (lex-same z y zs ys b) ∙ f))
+    (λ n. more-first z x zs xs n)
+    (eq-or-lt-of-le (le-trans l m))
+
+-- ---- the least
+
+-- g is at least as dear as f
+abbrev pub NoLess : Form → Form → Type 0
+NoLess f g = lex (keyOf g) (keyOf f) ≡ false
+
+no-less-on : (f g h : Form) → NoLess f g → NoLess g h → NoLess f h
+unfolding keyOf
+no-less-on f g h a b = not-less-on (keyOf f) (keyOf g) (keyOf h) refl refl a b
+
+lesser-left : (f g : Form) → NoLess (lesser f g) f
+unfolding lesser
+lesser-left f g =
+    ⊎-elim
+    (λ e. rw (pick-true _ _ e) (less-not-back (keyOf g) (keyOf f) e))
+    (λ e. rw (pick-false _ _ e) (not-less-self (keyOf f)))
+    (either (lex (keyOf g) (keyOf f)))
+
+lesser-right : (f g : Form) → NoLess (lesser f g) g
+unfolding lesser
+lesser-right f g =
+    ⊎-elim (λ e. rw (pick-true _ _ e) (not-less-self (keyOf g))) (λ e. rw (pick-false _ _ e) e) (either (lex (keyOf g) (keyOf f)))
+
+step : Form → Offer → Form
+step f o = pick (o .allowed) (lesser f (o .form)) f
+
+step-left : (f : Form) (o : Offer) → NoLess (step f o) f
+unfolding step
+step-left f o =
+    ⊎-elim (λ e. rw (pick-true _ _ e) (lesser-left f (o .form))) (λ e. rw (pick-false _ _ e) (not-less-self (keyOf f))) (either (o .allowed))
+
+-- no less than the first, and than each that may be taken
+pub least-first : (f : Form) (os : List Offer) → NoLess (least f os) f
+unfolding least step
+least-first f [] = not-less-self (keyOf f)
+least-first f (o ∷ os) = no-less-on (least (step f o) os) (step f o) f (least-first (step f o) os) (step-left f o)
+
+pub least-each : (f : Form) (os : List Offer) (k : ℕ) (d : Offer) → k < length os → getD os k d .allowed ≡ true → NoLess (least f os) (getD os k d .form)
+unfolding least step
+least-each f [] k d h t = absurd (omega arith)
+least-each f (o ∷ os) zero d h t =
+    no-less-on (least (step f o) os) (step f o) (o .form) (least-first (step f o) os) (rw (pick-true _ _ t) (lesser-right f (o .form)))
+least-each f (o ∷ os) (suc k) d h t = least-each (step f o) os k d (omega arith) t
+
+-- and it is one of them
+lesser-one : (f g : Form) → (lesser f g ≡ f) ⊎ (lesser f g ≡ g)
+unfolding lesser
+lesser-one f g = ⊎-elim (λ e. inr (pick-true _ _ e)) (λ e. inl (pick-false _ _ e)) (either (lex (keyOf g) (keyOf f)))
+
+step-one : (f : Form) (o : Offer) → (step f o ≡ f) ⊎ ((o .allowed ≡ true) × (step f o ≡ o .form))
+unfolding step
+step-one f o =
+    ⊎-elim
+    (λ t. ⊎-elim (λ q. inl (pick-true _ _ t ∙ q)) (λ q. inr (t, pick-true _ _ t ∙ q)) (lesser-one f (o .form)))
+    (λ t. inl (pick-false _ _ t))
+    (either (o .allowed))
+
+pub least-one : (f : Form) (os : List Offer) (d : Offer) → (least f os ≡ f) ⊎ ((k : ℕ) × (k < length os) × (getD os k d .allowed ≡ true) × (least f os ≡ getD os k d .form))
+unfolding least step
+least-one f [] d = inl refl
+least-one f (o ∷ os) d =
+    ⊎-elim
+    (λ e. ⊎-elim (λ q. inl (e ∙ q)) (λ w. inr (0, omega arith, w .0, e ∙ w .1)) (step-one f o))
+    (λ w. inr (suc (w .0), omega (arith, w .1), w .2, w .3))
+    (least-one (step f o) os d)
+
+-- so it is no longer
+pub no-longer : (f g : Form) → NoLess f g → f .bytes ≤ g .bytes
+unfolding keyOf
+no-longer f g e = not-less-head (g .bytes) (f .bytes) _ _ e
+
+-- ---- a local payload: at most a bitmap, and so at most 8,704 bytes over 65,535 positions
+
+pub local-bitmap : (s : Stats) → localForm s .bytes ≤ bitmapLength (spanOf s)
+unfolding localForm localOffers bitmapForm
+local-bitmap s =
+    let h : localForm s .bytes ≤ 0 + bitmapLength (spanOf s) = no-longer (localForm s) (bitmapForm false 0 (spanOf s)) (least-each (itemsForm 3 false (2 * s .count) (s .count)) (localOffers s) 3 (always denseForm) (lit< tt) refl) in
+    omega arith
+
+pub local-short : (s : Stats) → spanOf s ≤ 65535 → localForm s .bytes ≤ 8704
+unfolding bitmapLength wordsOf
+local-short s h = le-trans (local-bitmap s) (omega arith)

@@ -1,0 +1,19 @@
+-- `cost::join` meets its contract.
+-- Assumes nothing.
+use borrow.Author.Needs.{needs}
+use native.Mathlib.Numerals.{add-one}
+use Rattle.cost.specs.Statistics.{joined}
+use Rattle.cost.proofs.join.Statement.{statement}
+use Rattle.cost.proofs.join.Tie as tie
+
+pub join-spec : {M : Type 1} → statement M
+unfolding joined
+join-spec =
+    tie.close
+    (tie.spec
+    (λ c. search needs)
+    (λ c κs. search needs)
+    (λ c. search needs)
+    (λ c. search needs)
+    (λ c. search needs)
+    (λ c. rw (c .before .before .before .before .one-if .ensures .0, add-one)))

@@ -1,0 +1,24 @@
+-- `cost::rows_stats` meets its contract.
+-- Assumes nothing.
+use mathlib.Core.Path.{sym, _∙_}
+use native.Mathlib.Omega.{arith}
+use borrow.Author.Needs.{needs}
+use Rattle.cost.proofs.Positions.{stats-rows, covered-few, covered-at}
+use Rattle.cost.proofs.rows_stats.Statement.{statement}
+use Rattle.cost.proofs.rows_stats.Tie as tie
+
+pub rows-stats-spec : {M : Type 1} → statement M
+rows-stats-spec =
+    tie.close
+    (tie.spec
+    (λ c κs. covered-few _ _ (c .before .pre))
+    (λ c. search needs)
+    (λ c κs. covered-at _ _ 0 (c .before .before .before .pre) (c .before .before .before .pre .some))
+    (λ c. search needs)
+    (λ c. search needs)
+    (λ c. search needs)
+    (λ c κs. let s = c .before .before .before .before .before in covered-at _ _ _ (s .pre) (omega (arith, s .pre .some)))
+    (λ c. let s = c .before .before .before .before .before .before in omega (arith, covered-few (s .args .start) (s .args .rows .now) (s .pre)))
+    (λ c.
+    let s = c .before .before .before .before .before .before in
+    rw (c .before .before .position .ensures, c .position2 .ensures, c .before .before .before .before .count-runs .ensures) (sym (stats-rows _ _ (s .pre)))))

@@ -1,0 +1,4 @@
+pub mod Statistics
+pub mod Sizes
+pub mod Forms
+pub mod Rows

@@ -1,0 +1,23 @@
+-- Two results with the same answer are equal, so the contracts of gathering state one result.
+-- Assumes nothing.
+use mathlib.Core.Path.{_≡_, ap}
+use mathlib.Core.List.{List, [], _∷_}
+use Prim.Native.Nat.{ℕ}
+use native.Mathlib.Omega.{arith}
+use lib.ListN.{length, getD}
+use Rattle.model.specs.Answers.{Answer, accepted, refused}
+use Rattle.gather.specs.declared.Gatherer.{Gatherer}
+use Rattle.gather.specs.declared.Gathered.{Gathered}
+use Rattle.gather.specs.declared.Gathered.the-variants.{Record, Refused}
+use Rattle.gather.specs.Gather.{answerOf}
+
+-- a record from its values
+abbrev pub ofValues : List ℕ → Gatherer
+ofValues vs = record { entries = getD vs 0 0; rows = getD vs 1 0; first = getD vs 2 0; last = getD vs 3 0 }
+
+pub answers-same : (a b : Gathered) → answerOf a ≡ answerOf b → a ≡ b
+unfolding answerOf
+answers-same (Record g) (Record h) e = ap (λ (x : Answer). Record (ofValues (x .values))) e
+answers-same (Record g) (Refused k) e = absurd (omega (arith, ap (λ (x : Answer). length (x .values)) e))
+answers-same (Refused k) (Record h) e = absurd (omega (arith, ap (λ (x : Answer). length (x .values)) e))
+answers-same (Refused k) (Refused m) e = ap Refused (ap (λ (x : Answer). x .number) e)

@@ -1,0 +1,68 @@
+-- A page: empty or not, one seed or row by row, and what holds where no test refused it.
+-- Assumes nothing.
+use mathlib.Core.Path.{_≡_, refl, sym, ap, _∙_}
+use mathlib.Core.Bool.{Bool, true, false}
+use mathlib.Core.List.{List}
+use Prim.Native.Nat.{ℕ, zero, suc, _+_, _<_, _≤_}
+use native.Mathlib.Omega.{arith}
+use lib.Dec.{eqb}
+use lib.ListN.{length, set}
+use borrow.Author.Tests.{eq-eqb, ne-eqb}
+use Rattle.model.specs.Tests.{both, pick}
+use Rattle.model.specs.Answers.{Answer}
+use Rattle.model.proofs.Tests.{pick-true, pick-false}
+use Rattle.gather.specs.declared.Gatherer.{Gatherer}
+use Rattle.gather.specs.Gather.{answered, kept, impossible, above, rises, firstOf, oneSeed, addedAll, addedAllTo, seeded, paged, pagedTo, someNumber, pageNumber, pageAnswer, pageTable, Paging}
+use Rattle.gather.proofs.Admitted.{neither, passed, fits}
+
+kept-same : (k : ℕ) (t : List ℕ) → kept k t t ≡ t
+unfolding kept
+kept-same zero t = refl
+kept-same (suc k) t = refl
+
+module _ (g : Gatherer) (rows : List ℕ) (e : length rows ≡ 0) where
+  pub empty-answer : (room : ℕ) → pageAnswer g room rows ≡ answered (pick (impossible g room) 12 0) g
+  unfolding pageAnswer pageNumber pick
+  empty-answer room = rw (eq-eqb (length rows) 0 e)
+
+  pub empty-table : (t : List ℕ) → pageTable g t rows ≡ t
+  unfolding pageTable
+  empty-table t = rw (pick-true _ _ (eq-eqb (length rows) 0 e)) (kept-same (pageNumber g (length t) rows) t)
+
+module _ (g : Gatherer) (rows : List ℕ) (n : length rows ≡ 0 → ⊥) where
+  some-number : (room : ℕ) → pageNumber g room rows ≡ someNumber g room rows
+  unfolding pageNumber
+  some-number room = pick-false _ _ (ne-eqb (length rows) 0 n)
+
+  pub some-answer : (room : ℕ) → pageAnswer g room rows ≡ answered (someNumber g room rows) (paged g rows)
+  unfolding pageAnswer
+  some-answer room = rw (some-number room, pick-false _ _ (ne-eqb (length rows) 0 n))
+
+  pub some-table : (t : List ℕ) → pageTable g t rows ≡ kept (someNumber g (length t) rows) t (pagedTo t g rows)
+  unfolding pageTable
+  some-table t = rw (some-number (length t), pick-false _ _ (ne-eqb (length rows) 0 n))
+
+  pub page-admitted : (room : ℕ) → someNumber g room rows ≡ 0 → Paging g room rows
+  unfolding someNumber
+  page-admitted room e =
+      let a = neither _ _ e in
+      record { counted = passed g room _ (length rows) (a .0) .counted; any = omega arith; in-room = fits (paged g rows) room (a .1) }
+
+-- ---- one seed, or row by row
+
+module _ (g : Gatherer) (rows : List ℕ) where
+  pub paged-one : oneSeed rows ≡ true → paged g rows ≡ seeded g rows
+  unfolding paged
+  paged-one e = pick-true _ _ e
+
+  pub paged-rows : oneSeed rows ≡ false → paged g rows ≡ addedAll g rows
+  unfolding paged
+  paged-rows e = pick-false _ _ e
+
+  pub paged-one-to : (t : List ℕ) → oneSeed rows ≡ true → pagedTo t g rows ≡ set t (g .entries) (g .rows + length rows)
+  unfolding pagedTo
+  paged-one-to t e = pick-true _ _ e
+
+  pub paged-rows-to : (t : List ℕ) → oneSeed rows ≡ false → pagedTo t g rows ≡ addedAllTo t g rows
+  unfolding pagedTo
+  paged-rows-to t e = pick-false _ _ e

@@ -1,0 +1,280 @@
+// Gathering: the ends of seeds, written into a lent table, with a small record of where gathering stands.
+ghost use mathlib.Core.Path.{_≡_};
+ghost use Prim.Native.Nat.{_+_, _<_, _≤_};
+ghost use lib.Dec.{ltb};
+ghost use lib.ListN.{length};
+ghost use Rattle.gather.specs.Gather.{answerOf, impossible, above, early, late, joins, added, addedTo, rowNumber, rowAnswer, rowTable, rises, oneSeed, addedAll, addedAllTo, seeded, paged, pagedTo, someNumber, pageAnswer, pageTable, Counted, Paging};
+
+// Entries of the table in use, rows gathered, first row of the last seed, last row.
+pub struct Gatherer {
+    pub entries: usize,
+    pub rows: usize,
+    pub first: u64,
+    pub last: u64,
+}
+
+// The new record, or the refusal's number.
+pub enum Gathered {
+    Record(Gatherer),
+    Refused(u8),
+}
+
+// Test 12.
+fn impossible(g: Gatherer, room: usize) -> bool
+    ensures { λ r. ⌜ r ≡ impossible g room ⌝ }
+{
+    if room < g.entries {
+        return true;
+    }
+    if g.rows < g.entries {
+        return true;
+    }
+    if g.rows == 0 {
+        return false;
+    }
+    if g.entries == 0 {
+        return true;
+    }
+    g.last < g.first
+}
+
+// Whether a row is above the last row, if any.
+fn above(g: Gatherer, row: u64) -> bool
+    ensures { λ r. ⌜ r ≡ above g row ⌝ }
+{
+    if g.rows == 0 {
+        return true;
+    }
+    g.last < row
+}
+
+// Whether n rows more would make more than 65,535.
+fn too_many(g: Gatherer, n: usize) -> bool
+    ensures { λ r. ⌜ r ≡ ltb 65535 (g .rows + n) ⌝ }
+{
+    let rows = g.rows;
+    if 65535 < rows {
+        return true;
+    }
+    65535 - rows < n
+}
+
+// Tests 12, 3 and 2, in that order.
+fn early(g: Gatherer, room: usize, rising: bool, n: usize) -> u8
+    ensures { λ r. ⌜ r ≡ early g room rising n ⌝ }
+{
+    if impossible(g, room) {
+        return 12;
+    }
+    if !rising {
+        return 3;
+    }
+    if too_many(g, n) { 2 } else { 0 }
+}
+
+// Test 11.
+fn late(after: Gatherer, room: usize) -> u8
+    ensures { λ r. ⌜ r ≡ late after room ⌝ }
+{
+    if room < after.entries { 11 } else { 0 }
+}
+
+// Whether a row joins the last seed.
+fn joins(g: Gatherer, row: u64) -> bool
+    ensures { λ r. ⌜ r ≡ joins g row ⌝ }
+{
+    if g.rows == 0 {
+        return false;
+    }
+    row / 4096 == g.first / 4096
+}
+
+// The record with a row in.
+fn added(g: Gatherer, row: u64) -> Gatherer
+    requires { ⌜ Counted g 1 ⌝ }
+    ensures { λ r. ⌜ r ≡ added g row ⌝ }
+{
+    let entries = g.entries;
+    let total = g.rows + 1;
+    if joins(g, row) {
+        Gatherer {
+            entries: entries,
+            rows: total,
+            first: g.first,
+            last: row,
+        }
+    } else {
+        Gatherer {
+            entries: entries + 1,
+            rows: total,
+            first: row,
+            last: row,
+        }
+    }
+}
+
+// The number of a refusal of a single row, or 0.
+fn row_number(g: Gatherer, room: usize, row: u64) -> u8
+    ensures { λ r. ⌜ r ≡ rowNumber g room row ⌝ }
+{
+    let k = early(g, room, above(g, row), 1);
+    if k != 0 {
+        return k;
+    }
+    late(added(g, row), room)
+}
+
+// The total as a table's entry.
+fn end_of(total: usize) -> u16
+    requires { ⌜ total ≤ 65535 ⌝ }
+    ensures { λ r. ⌜ r ≡ total ⌝ }
+{
+    total as u16
+}
+
+// One row into the record and the table, where there is room.
+fn put_row(g: Gatherer, table: &mut [u16], row: u64) -> Gatherer
+    requires { ⌜ Counted g 1 × (added g row .entries ≤ length (now table)) ⌝ }
+    ensures { λ r. ⌜ (r ≡ added g row) × (now (table .exit) ≡ addedTo (now (table .entry)) g row) ⌝ }
+{
+    let next = added(g, row);
+    let at = next.entries - 1;
+    table[at] = end_of(next.rows);
+    next
+}
+
+// One row more: the record with it in, and its seed's end in the table; or a refusal, and the table as it was.
+pub fn gather_row(g: Gatherer, table: &mut [u16], row: u64) -> Gathered
+    ensures { λ r. ⌜ (answerOf r ≡ rowAnswer g (length (now (table .entry))) row) × (now (table .exit) ≡ rowTable g (now (table .entry)) row) ⌝ }
+{
+    let k = row_number(g, table.len(), row);
+    if k != 0 {
+        return Gathered::Refused(k);
+    }
+    Gathered::Record(put_row(g, table, row))
+}
+
+// Whether rows rise strictly.
+fn rises(rows: &[u64]) -> bool
+    ensures { λ r. ⌜ r ≡ rises (now (rows .entry)) ⌝ }
+{
+    let mut ok = true;
+    let mut i = 0;
+    while i + 1 < rows.len() {
+        ok = ok & (rows[i] < rows[i + 1]);
+        i += 1;
+    }
+    ok
+}
+
+// Whether a page that is not empty is one seed.
+fn one_seed(rows: &[u64]) -> bool
+    requires { ⌜ 0 < length (now rows) ⌝ }
+    ensures { λ r. ⌜ r ≡ oneSeed (now (rows .entry)) ⌝ }
+{
+    let first = rows[0];
+    let last = rows[rows.len() - 1];
+    if last <= first {
+        return true;
+    }
+    last - first < 65535
+}
+
+// The record with rows in, each added singly.
+fn added_all(g: Gatherer, rows: &[u64]) -> Gatherer
+    requires { ⌜ Counted g (length (now rows)) ⌝ }
+    ensures { λ r. ⌜ r ≡ addedAll g (now (rows .entry)) ⌝ }
+{
+    let mut h = g;
+    let mut i = 0;
+    while i < rows.len() {
+        h = added(h, rows[i]);
+        i += 1;
+    }
+    h
+}
+
+// The same with the table, where there is room.
+fn put_rows(g: Gatherer, table: &mut [u16], rows: &[u64]) -> Gatherer
+    requires { ⌜ Counted g (length (now rows)) × (addedAll g (now rows) .entries ≤ length (now table)) ⌝ }
+    ensures { λ r. ⌜ (r ≡ addedAll g (now (rows .entry))) × (now (table .exit) ≡ addedAllTo (now (table .entry)) g (now (rows .entry))) ⌝ }
+{
+    let mut h = g;
+    let mut i = 0;
+    while i < rows.len() {
+        h = put_row(h, table, rows[i]);
+        i += 1;
+    }
+    h
+}
+
+// The record with a page in that is one seed.
+fn seeded(g: Gatherer, rows: &[u64]) -> Gatherer
+    requires { ⌜ Counted g (length (now rows)) × (0 < length (now rows)) ⌝ }
+    ensures { λ r. ⌜ r ≡ seeded g (now (rows .entry)) ⌝ }
+{
+    let n = rows.len();
+    Gatherer {
+        entries: g.entries + 1,
+        rows: g.rows + n,
+        first: rows[0],
+        last: rows[n - 1],
+    }
+}
+
+// The record with a page in that is not empty.
+fn paged(g: Gatherer, rows: &[u64]) -> Gatherer
+    requires { ⌜ Counted g (length (now rows)) × (0 < length (now rows)) ⌝ }
+    ensures { λ r. ⌜ r ≡ paged g (now (rows .entry)) ⌝ }
+{
+    if one_seed(rows) {
+        seeded(g, rows)
+    } else {
+        added_all(g, rows)
+    }
+}
+
+// The number of a refusal of a page that is not empty, or 0.
+fn some_number(g: Gatherer, room: usize, rows: &[u64]) -> u8
+    requires { ⌜ 0 < length (now rows) ⌝ }
+    ensures { λ r. ⌜ r ≡ someNumber g room (now (rows .entry)) ⌝ }
+{
+    let rising = above(g, rows[0]) & rises(rows);
+    let k = early(g, room, rising, rows.len());
+    if k != 0 {
+        return k;
+    }
+    late(paged(g, rows), room)
+}
+
+// The record and the table with a page in that is not empty, where there is room.
+fn put_page(g: Gatherer, table: &mut [u16], rows: &[u64]) -> Gatherer
+    requires { ⌜ Paging g (length (now table)) (now rows) ⌝ }
+    ensures { λ r. ⌜ (r ≡ paged g (now (rows .entry))) × (now (table .exit) ≡ pagedTo (now (table .entry)) g (now (rows .entry))) ⌝ }
+{
+    if one_seed(rows) {
+        let next = seeded(g, rows);
+        let at = g.entries;
+        table[at] = end_of(next.rows);
+        next
+    } else {
+        put_rows(g, table, rows)
+    }
+}
+
+// A page: the record with it in, and its seeds' ends in the table; or a refusal, and the table as it was.
+pub fn gather_page(g: Gatherer, table: &mut [u16], rows: &[u64]) -> Gathered
+    ensures { λ r. ⌜ (answerOf r ≡ pageAnswer g (length (now (table .entry))) (now (rows .entry))) × (now (table .exit) ≡ pageTable g (now (table .entry)) (now (rows .entry))) ⌝ }
+{
+    if rows.len() == 0 {
+        if impossible(g, table.len()) {
+            return Gathered::Refused(12);
+        }
+        return Gathered::Record(g);
+    }
+    let k = some_number(g, table.len(), rows);
+    if k != 0 {
+        return Gathered::Refused(k);
+    }
+    Gathered::Record(put_page(g, table, rows))
+}
