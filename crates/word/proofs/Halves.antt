@@ -12,7 +12,6 @@ use lib.Pow.{pow-pos, pow-add, shl-shr, mod-pow-add, mod-mod-pow}
 use Rattle.model.proofs.Rising.{rising-below}
 use Rattle.model.proofs.Append.{getD-second}
 use Rattle.word.specs.Bits.{named, bitsFrom, placeIn, Wanted, Halved}
-use Rattle.word.specs.declared.Half.{Half}
 use Rattle.word.proofs.Bits.{bits-cat, bits-length, bits-count, bits-rising, mod-suc}
 
 -- ---- the b lowest digits, moved to the top of a word
@@ -36,50 +35,47 @@ ones-shifted b w h =
 
 -- ---- the half that holds the wanted place
 
-module _ (h : Half) (big : 1 < h .width) (wanted : Wanted h) where
+module _ (word width k base : ℕ) (big : 1 < width) (wanted : Wanted word width k base) where
   abbrev half : ℕ
-  half = h .width / 2
+  half = width / 2
 
   -- the level below, at which both halves are
-  lower : (l : ℕ) → h .width ≡ 2 ^ l → (m : ℕ) × (half ≡ 2 ^ m) × (h .width ≡ half + half)
+  lower : (l : ℕ) → width ≡ 2 ^ l → (m : ℕ) × (half ≡ 2 ^ m) × (width ≡ half + half)
   lower zero e = absurd (omega arith)
-  lower (suc l) e = let q : h .width ≡ 2 ^ l * 2 = rw pow-suc at e in (l, omega arith, omega arith)
+  lower (suc l) e = let q : width ≡ 2 ^ l * 2 = rw pow-suc at e in (l, omega arith, omega arith)
 
-  level-below : (m : ℕ) × (half ≡ 2 ^ m) × (h .width ≡ half + half)
+  level-below : (m : ℕ) × (half ≡ 2 ^ m) × (width ≡ half + half)
   level-below = lower (wanted .level) (wanted .power)
 
   abbrev low : List ℕ
-  low = bitsFrom half (h .base) (h .word)
+  low = bitsFrom half base word
 
   abbrev high : List ℕ
-  high = bitsFrom half (h .base + half) (h .word / 2 ^ half)
+  high = bitsFrom half (base + half) (word / 2 ^ half)
 
-  parts : bitsFrom (h .width) (h .base) (h .word) ≡ low ++ high
-  parts = ap (λ (n : ℕ). bitsFrom n (h .base) (h .word)) (level-below .2) ∙ bits-cat half half (h .base) (h .word)
+  parts : bitsFrom width base word ≡ low ++ high
+  parts = ap (λ (n : ℕ). bitsFrom n base word) (level-below .2) ∙ bits-cat half half base word
 
-  pub low-half : h .k < length (bitsFrom half 0 (h .word)) → Halved h (record { word = h .word; width = half; k = h .k; base = h .base })
+  pub low-half : k < length (bitsFrom half 0 word) → Halved word width k base (record { word = word; k = k; base = base })
   low-half less =
-      let l : h .k < length low = omega (arith, bits-count half 0 (h .base) (h .word)) in
+      let l : k < length low = omega (arith, bits-count half 0 base word) in
       record {
-        width = refl;
         wanted = record { level = level-below .0; power = level-below .1; inside = l; fits = omega (arith, wanted .fits) };
-        same = rw parts (sym (List·getD-append low high 0 (h .k) l));
+        same = rw parts (sym (List·getD-append low high 0 k l));
       }
 
-  pub high-half : (n : ℕ) → n ≡ length (bitsFrom half 0 (h .word)) → n ≤ h .k
-      → Halved h (record { word = h .word / 2 ^ half; width = half; k = h .k - n; base = h .base + half })
+  pub high-half : (n : ℕ) → n ≡ length (bitsFrom half 0 word) → n ≤ k → Halved word width k base (record { word = word / 2 ^ half; k = k - n; base = base + half })
   high-half n e least =
-      let q : n ≡ length low = e ∙ bits-count half 0 (h .base) (h .word) in
-      let l : length low ≤ h .k = omega arith in
+      let q : n ≡ length low = e ∙ bits-count half 0 base word in
+      let l : length low ≤ k = omega arith in
       record {
-        width = refl;
         wanted = record {
           level = level-below .0;
           power = level-below .1;
           inside = omega (arith, wanted .inside, simp length-append at (ap length parts));
           fits = omega (arith, wanted .fits, level-below .2);
         };
-        same = rw (parts, q) (sym (getD-second low high (h .k) l));
+        same = rw (parts, q) (sym (getD-second low high k l));
       }
 
 named-only : (d p k : ℕ) → k < length (named d p []) → p ≡ getD (named d p []) k 0
@@ -89,11 +85,11 @@ named-only (suc d) p zero h = refl
 named-only (suc d) p (suc k) h = absurd (omega arith)
 
 -- one digit is left
-pub last-digit : (h : Half) → h .width ≤ 1 → Wanted h → h .base ≡ placeIn h
+pub last-digit : (word width k base : ℕ) → width ≤ 1 → Wanted word width k base → base ≡ placeIn word width k base
 unfolding bitsFrom
-last-digit h small wanted =
-    let e : h .width ≡ 1 = omega (arith, wanted .power, pow-pos (wanted .level)) in
-    rw e (named-only (h .word % 2) (h .base) (h .k) (rw e at (wanted .inside)))
+last-digit word width k base small wanted =
+    let e : width ≡ 1 = omega (arith, wanted .power, pow-pos (wanted .level)) in
+    rw e (named-only (word % 2) base k (rw e at (wanted .inside)))
 
 -- ---- the lowest set digit, and the number without it
 

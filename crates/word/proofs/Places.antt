@@ -16,7 +16,7 @@ use Rattle.word.specs.Bits.{named, bitsFrom}
 use Rattle.word.proofs.Bits.{bits-cut, bits-rising}
 
 -- counted from 0
-rising-places : (n w : ℕ) → Rising 0 n (bitsFrom n 0 w)
+pub rising-places : (n w : ℕ) → Rising 0 n (bitsFrom n 0 w)
 rising-places n w = rw zero-add at (bits-rising n 0 w)
 
 pub below-bits : (n p w : ℕ) → p ≤ n → below (bitsFrom n 0 w) p ≡ length (bitsFrom p 0 w)

@@ -26,19 +26,18 @@ unfoldable pub numFrom : ℕ → List ℕ → ℕ
 numFrom a [] = 0
 numFrom a (p ∷ ps) = 2 ^ (p - a) + numFrom a ps
 
--- the place that a part of a word asks for
-abbrev pub placeIn : Half → ℕ
-placeIn h = getD (bitsFrom (h .width) (h .base) (h .word)) (h .k) 0
+-- the place that a part of a word asks for: number k of the set places among the width lowest of word, counted from base
+abbrev pub placeIn : ℕ → ℕ → ℕ → ℕ → ℕ
+placeIn word width k base = getD (bitsFrom width base word) k 0
 
 -- there is such a place, and the width is what 64 comes to by halving
-pub record Wanted (h : Half) : Type 0 where
+pub record Wanted (word width k base : ℕ) : Type 0 where
   pub level : ℕ
-  pub power : h .width ≡ 2 ^ level
-  pub inside : h .k < length (bitsFrom (h .width) (h .base) (h .word))
-  pub fits : h .base + h .width ≤ 64
+  pub power : width ≡ 2 ^ level
+  pub inside : k < length (bitsFrom width base word)
+  pub fits : base + width ≤ 64
 
--- r is a half of h, and asks for the same place
-pub record Halved (h r : Half) : Type 0 where
-  pub width : r .width ≡ h .width / 2
-  pub wanted : Wanted r
-  pub same : placeIn r ≡ placeIn h
+-- r is a half of the part, and asks for the same place
+pub record Halved (word width k base : ℕ) (r : Half) : Type 0 where
+  pub wanted : Wanted (r .word) (width / 2) (r .k) (r .base)
+  pub same : placeIn (r .word) (width / 2) (r .k) (r .base) ≡ placeIn word width k base

@@ -29,47 +29,46 @@ pub fn is_set(word: u64, place: u32) -> bool
     (word >> place) % 2 == 1
 }
 
-// A part of a word in which a set place is looked for: number `k` of the `width` lowest digits of `word`, which are counted from `base`.
+// A half of a part of a word, in which the set place number `k` is wanted; its lowest digit is counted from `base`.
 pub struct Half {
     pub word: u64,
-    pub width: u32,
     pub k: u32,
     pub base: u32,
 }
 
-// The half of the part that holds the wanted place. Both halves have the same width, so that only values turn on the choice and no branch.
-fn half_of(h: Half) -> Half
-    requires { ⌜ (1 < h .width) × (Wanted h) ⌝ }
-    ensures { λ r. ⌜ Halved h r ⌝ }
+// The half that holds the wanted place. Both halves have the same width, so that only values turn on the choice and no branch.
+fn half_of(word: u64, width: u32, k: u32, base: u32) -> Half
+    requires { ⌜ (1 < width) × (Wanted word width k base) ⌝ }
+    ensures { λ r. ⌜ Halved word width k base r ⌝ }
 {
-    let width = h.width / 2;
-    let low = ones_below(h.word, width);
-    if h.k < low {
+    let half = width / 2;
+    let low = ones_below(word, half);
+    if k < low {
         Half {
-            word: h.word,
-            width: width,
-            k: h.k,
-            base: h.base,
+            word: word,
+            k: k,
+            base: base,
         }
     } else {
         Half {
-            word: h.word >> width,
-            width: width,
-            k: h.k - low,
-            base: h.base + width,
+            word: word >> half,
+            k: k - low,
+            base: base + half,
         }
     }
 }
 
-// The wanted place: goes on in one half, until one digit is left.
-fn select_in(h: Half) -> u32
-    requires { ⌜ Wanted h ⌝ }
-    ensures { λ r. ⌜ r ≡ placeIn h ⌝ }
+// The wanted place among the `width` lowest digits: goes on in one half, until one digit is left. It calls itself once and
+// with numbers, not with the struct, so that the compiler makes straight code of the six turns.
+fn select_in(word: u64, width: u32, k: u32, base: u32) -> u32
+    requires { ⌜ Wanted word width k base ⌝ }
+    ensures { λ r. ⌜ r ≡ placeIn word width k base ⌝ }
 {
-    if h.width <= 1 {
-        return h.base;
+    if width <= 1 {
+        return base;
     }
-    select_in(half_of(h))
+    let h = half_of(word, width, k, base);
+    select_in(h.word, width / 2, h.k, h.base)
 }
 
 // The set place number `k`.
@@ -77,12 +76,7 @@ pub fn select(word: u64, k: u32) -> u32
     requires { ⌜ k < length (bitsOf word) ⌝ }
     ensures { λ r. ⌜ (r ≡ getD (bitsOf word) k 0) × (r < 64) ⌝ }
 {
-    select_in(Half {
-        word: word,
-        width: 64,
-        k: k,
-        base: 0,
-    })
+    select_in(word, 64, k, 0)
 }
 
 // The lowest set place, and the word without it.

@@ -14,7 +14,7 @@ use Rattle.word.proofs.+select_in.{statement}
 use Rattle.word.proofs.+select_in.Tie.{close}
 
 abbrev μ-select-in : Measures 0 select-in-kinds.ps ℕ
-μ-select-in κs a = a .0 .width
+μ-select-in κs a = a .1 .0
 
 abbrev select-in-at : ℕ → In 0 select-in-kinds.ps
 select-in-at t = and 0 select-in-kinds.ps (is 0 select-in-kinds.ps μ-select-in t) select-in.Pre
@@ -31,7 +31,7 @@ pub +select-in-spec : {M : Type 1} → statement M
 )
     (select-in-at t)
     select-in.Post
-    (λ c. last-digit (c .before .before .args .h) (omega arith) (c .before .before .pre .1))
-    (λ c κs. (omega arith, c .before .before .pre .1))
+    (λ c. last-digit _ _ _ _ (omega arith) (c .before .pre .1))
+    (λ c κs. (omega arith, c .before .pre .1))
     (λ c κs. (omega arith, c .half-of .ensures .wanted))
     (λ c. c .select-in .ensures ∙ c .before .half-of .ensures .same)

@@ -14,8 +14,5 @@ half-of-spec =
     (λ c. search needs)
     (λ c. search needs)
     (λ c. search needs)
-    (λ c. let s = c .before .before .before .before in low-half (s .args .h) (s .pre .0) (s .pre .1) (omega arith))
-    (λ c.
-    let s = c .before .before .before .before .before .before .before in
-    let e = c .before .before .before .before .before .ones-below .ensures .0 in
-    high-half (s .args .h) (s .pre .0) (s .pre .1) _ e (omega arith)))
+    (λ c. let s = c .before .before in low-half _ _ _ _ (s .pre .0) (s .pre .1) (omega arith))
+    (λ c. let s = c .before .before in high-half _ _ _ _ (s .pre .0) (s .pre .1) _ (c .before .ones-below .ensures .0) (c .if1 .left)))
