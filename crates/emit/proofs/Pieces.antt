@@ -5,7 +5,7 @@ use mathlib.Core.List.{List, [], _∷_, _++_, append-assoc, append-nil}
 use Prim.Native.Nat.{ℕ, zero, suc, _+_, _-_, _*_, _%_, _^_, _<_, _≤_}
 use native.Mathlib.Nat.{add-zero, sub-zero}
 use native.Mathlib.Omega.{arith}
-use lib.ListN.{length}
+use lib.ListN.{length, length-append}
 use Rattle.fields.specs.Le.{digits, put}
 use Rattle.fields.proofs.Laws.{digits-split, length-digits}
 use Rattle.model.specs.Lists.{range, run}
@@ -63,3 +63,7 @@ pub entry-fields : (w start size before at : ℕ) {p r : ℕ} {xs ys zs out : Li
     → Written (runsBytes w before (run start size ∷ [])) at xs out r
 unfolding runsBytes
 entry-fields w start size before at {p} l d e f q = rw append-nil (written-more (written-more (written-put w start at d l) (written-put 2 size p e refl)) (written-put 2 before (p + 2) f (omega arith)))
+
+pub length-entry : (w before start size : ℕ) → length (runsBytes w before (run start size ∷ [])) ≡ w + 4
+unfolding runsBytes
+length-entry w before start size = simp (append-nil, length-append, length-digits) (omega arith)
