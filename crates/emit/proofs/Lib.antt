@@ -5,3 +5,5 @@ pub mod Rowing
 pub mod Forms
 pub mod Passing
 pub mod Loops
+pub mod Storing
+pub mod Ranging

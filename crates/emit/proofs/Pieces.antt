@@ -67,3 +67,28 @@ entry-fields w start size before at {p} l d e f q = rw append-nil (written-more 
 pub length-entry : (w before start size : ℕ) → length (runsBytes w before (run start size ∷ [])) ≡ w + 4
 unfolding runsBytes
 length-entry w before start size = simp (append-nil, length-append, length-digits) (omega arith)
+
+-- ---- words of zeros
+
+-- i of them stand
+pub record Zeroing (words : ℕ) (before : List ℕ) (at p i : ℕ) (out : List ℕ) : Type 0 where
+  pub upto : i ≤ words
+  pub so : Emitting (digits (8 * words) 0) before at p (digits (8 * (words - i)) 0) out
+
+module _ (words : ℕ) (before : List ℕ) (at : ℕ) where
+  pub zeroing-start : Zeroing words before at at 0 before
+  zeroing-start = record { upto = omega arith; so = rw sub-zero (emitting-start (digits (8 * words) 0) before at) }
+
+  module _ {p i : ℕ} {out : List ℕ} (s : Zeroing words before at p i out) (h : i < words) where
+    word : digits (8 * (words - i)) 0 ≡ digits 8 0 ++ digits (8 * (words - (i + 1))) 0
+    word = let e : 8 * (words - i) ≡ 8 + 8 * (words - (i + 1)) = omega arith in rw e (digits-split 8 (8 * (words - (i + 1))) 0)
+
+    pub zeroing-room : at + 8 * words ≤ length before → p + 8 ≤ length out
+    zeroing-room r = omega (arith, length-digits 8 0, emitting-room (s .so) (digits 8 0) _ word (rw length-digits r))
+
+    pub zeroing-next : {out′ : List ℕ} → out′ ≡ put 8 out p 0 → Zeroing words before at (p + 8) (i + 1) out′
+    zeroing-next e = record { upto = omega arith; so = emitting-next (s .so) (written-put 8 0 p e refl) word }
+
+  pub zeroing-end : {p i : ℕ} {out : List ℕ} → Zeroing words before at p i out → words ≤ i → Written (digits (8 * words) 0) at before out p
+  unfolding digits
+  zeroing-end {p} {i} s h = let e : 8 * (words - i) ≡ 0 = omega arith in emitting-end (s .so) (rw e)

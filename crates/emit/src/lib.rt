@@ -2,15 +2,16 @@
 // and answers the place behind what it wrote.
 ghost use mathlib.Core.Path.{_≡_};
 ghost use mathlib.Core.List.{[], _∷_};
-ghost use Prim.Native.Nat.{_+_, _-_, _*_, _<_, _≤_};
+ghost use Prim.Native.Nat.{_+_, _-_, _*_, _/_, _%_, _<_, _≤_, min};
 ghost use lib.ListN.{length};
-ghost use Rattle.fields.specs.Le.{put, widthOf};
+ghost use Rattle.fields.specs.Le.{digits, put, widthOf};
 ghost use Rattle.model.specs.Lists.{Rising, range, run};
 ghost use Rattle.lists.specs.Lists.{listLayout};
 ghost use Rattle.runs.specs.Runs.{runsBytes, runsLayout};
 ghost use Rattle.missing.specs.Missing.{missingLayout};
 ghost use Rattle.cost.specs.Rows.{positionsOf, Covered};
 ghost use Rattle.emit.specs.Written.{Written};
+ghost use Rattle.emit.specs.Digits.{mask, setIn, Ranged};
 
 fn width(wide: bool) -> usize
     ensures { λ r. ⌜ r ≡ widthOf wide ⌝ }
@@ -59,6 +60,61 @@ pub fn run_entry(out: &mut [u8], at: usize, start: u32, size: u16, before: u16, 
     fields::put16(out, p, size);
     fields::put16(out, p + 2, before);
     p + 4
+}
+
+// ---- bitmaps: words of zeros first, then the digits of each run, word by word
+
+// The number 0 in words.
+fn zeros(out: &mut [u8], at: usize, words: usize) -> usize
+    requires { ⌜ at + 8 * words ≤ length (now out) ⌝ }
+    ensures { λ r. ⌜ Written (digits (8 * words) 0) at (now (out .entry)) (now (out .exit)) r ⌝ }
+{
+    let mut p = at;
+    let mut i = 0;
+    while i < words {
+        fields::put64(out, p, 0);
+        p += 8;
+        i += 1;
+    }
+    p
+}
+
+// n digits from `low` on.
+fn mask(low: u32, n: u32) -> u64
+    requires { ⌜ (1 ≤ n) × (low + n ≤ 64) ⌝ }
+    ensures { λ r. ⌜ r ≡ mask low n ⌝ }
+{
+    (18446744073709551615 >> (64 - n)) << low
+}
+
+fn least(a: u32, b: u32) -> u32
+    ensures { λ r. ⌜ r ≡ min a b ⌝ }
+{
+    if a < b { a } else { b }
+}
+
+// Sets n digits from q on, all of one word.
+fn set_in_word(out: &mut [u8], at: usize, q: u32, n: u32)
+    requires { ⌜ (1 ≤ n) × (q % 64 + n ≤ 64) × (at + 8 * (q / 64) + 8 ≤ length (now out)) ⌝ }
+    ensures { λ _. ⌜ now (out .exit) ≡ setIn (now (out .entry)) at q n ⌝ }
+{
+    let p = at + 8 * (q / 64) as usize;
+    let word = fields::read64(out, p);
+    fields::put64(out, p, word | mask(q % 64, n));
+}
+
+// Sets the digits of a run.
+fn set_range(out: &mut [u8], at: usize, start: u32, size: u32)
+    requires { ⌜ (start + size ≤ 4294967295) × (at + 8 * ((start + size + 63) / 64) ≤ length (now out)) ⌝ }
+    ensures { λ _. ⌜ Ranged at start (start + size) (now (out .entry)) (now (out .exit)) ⌝ }
+{
+    let end = start + size;
+    let mut q = start;
+    while q < end {
+        let n = least(64 - q % 64, end - q);
+        set_in_word(out, at, q, n);
+        q += n;
+    }
 }
 
 // ---- u64 rows, counted from base: the rows of a whole set, or of one segment as a part of its own
