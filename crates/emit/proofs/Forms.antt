@@ -23,9 +23,9 @@ pub list-whole : (w : ℕ) (xs : List ℕ) → listForm w 0 0 (runsOf xs) ≡ li
 unfolding listForm
 list-whole w xs = rw spread-runsOf
 
-pub list-step : (w i from start n : ℕ) → Step (listForm w) i from start n (listLayout w (range start n))
+pub list-step : (w b i from start n : ℕ) → Step (listForm w) b i from start n (listLayout w (range start n))
 unfolding listForm spread
-list-step w i from start n rs = layout-append w (range start n) (spread rs)
+list-step w b i from start n rs a = layout-append w (range start n) (spread rs)
 
 pub list-end : (w i from : ℕ) → listForm w i from [] ≡ []
 unfolding listForm spread listLayout
@@ -40,9 +40,9 @@ pub runs-whole : (w : ℕ) (xs : List ℕ) → runsForm w 0 0 (runsOf xs) ≡ ru
 unfolding runsForm runsLayout
 runs-whole w xs = refl
 
-pub runs-step : (w i from start n : ℕ) → Step (runsForm w) i from start n (runsBytes w i (run start n ∷ []))
+pub runs-step : (w b i from start n : ℕ) → Step (runsForm w) b i from start n (runsBytes w i (run start n ∷ []))
 unfolding runsForm runsBytes
-runs-step w i from start n rs = rw append-nil
+runs-step w b i from start n rs a = rw append-nil
 
 pub runs-end : (w i from : ℕ) → runsForm w i from [] ≡ []
 unfolding runsForm runsBytes
@@ -70,9 +70,9 @@ unfolding range complement
 complement-step from b start zero ys h = absurd (omega arith)
 complement-step from b start (suc n) ys h = rw (complement-run (suc start) b n ys, suc-add, add-suc)
 
-pub missing-step : (span i from start n : ℕ) → 1 ≤ n → Step (missingForm span) i from start n (listLayout 2 (range from (start - from)))
+pub missing-step : (span i from start n : ℕ) → 1 ≤ n → Step (missingForm span) span i from start n (listLayout 2 (range from (start - from)))
 unfolding missingForm spread
-missing-step span i from start n h rs = rw (complement-step from span start n (spread rs) h) (layout-append 2 _ _)
+missing-step span i from start n h rs a = rw (complement-step from span start n (spread rs) h) (layout-append 2 _ _)
 
 pub missing-end : (span i from : ℕ) → missingForm span i from [] ≡ listLayout 2 (range from (span - from))
 unfolding missingForm spread complement

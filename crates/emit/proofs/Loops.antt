@@ -37,11 +37,11 @@ module _ (w base : ℕ) (rows before : List ℕ) (at : ℕ) (r : Rising base (ba
   module _ {p i : ℕ} {out : List ℕ} (s : Passing (listForm w) base 4294967295 rows before at p i out) (h : i < length rows) {start j : ℕ} (a : start ≡ getD rows i 0 - base) (l : j ≡ runEnd rows i) where
     pub list-fits : at + length (listLayout w (positionsOf base rows)) ≤ length before → (p + (j - i) * w ≤ length out) × (start + (j - i) ≤ 4294967296)
     list-fits k =
-        let m = room-rows (listForm w) base 4294967295 rows before at r (s .so) h a l (listLayout w (range start (j - i))) (list-step w i (s .from) start (j - i)) (rw list-whole k) in
+        let m = room-rows (listForm w) base 4294967295 rows before at r (s .so) h a l (listLayout w (range start (j - i))) (list-step w 4294967295 i (s .from) start (j - i)) (rw list-whole k) in
         (rw (← size-range w start (j - i)) m, omega (arith, ahead-rows (listForm w) base 4294967295 rows before at r (s .so) h a l .within))
 
     pub list-next : {q : ℕ} {out′ : List ℕ} → Written (listLayout w (range start (j - i))) p out out′ q → Passing (listForm w) base 4294967295 rows before at q j out′
-    list-next wr = pass-next (listForm w) base 4294967295 rows before at r (s .so) h a l wr (list-step w i (s .from) start (j - i))
+    list-next wr = pass-next (listForm w) base 4294967295 rows before at r (s .so) h a l wr (list-step w 4294967295 i (s .from) start (j - i))
 
   pub list-done : {p i : ℕ} {out : List ℕ} → Passing (listForm w) base 4294967295 rows before at p i out → length rows ≤ i → Written (listLayout w (positionsOf base rows)) at before out p
   list-done s h = rw list-whole at (pass-end (listForm w) base 4294967295 rows before at r (list-end w) s h)
@@ -49,11 +49,11 @@ module _ (w base : ℕ) (rows before : List ℕ) (at : ℕ) (r : Rising base (ba
   module _ {p i : ℕ} {out : List ℕ} (s : Passing (runsForm w) base 4294967295 rows before at p i out) (h : i < length rows) {start j : ℕ} (a : start ≡ getD rows i 0 - base) (l : j ≡ runEnd rows i) where
     pub runs-fits : at + length (runsLayout w (positionsOf base rows)) ≤ length before → p + (w + 4) ≤ length out
     runs-fits k =
-        let m = room-rows (runsForm w) base 4294967295 rows before at r (s .so) h a l (runsBytes w i (run start (j - i) ∷ [])) (runs-step w i (s .from) start (j - i)) (rw runs-whole k) in
+        let m = room-rows (runsForm w) base 4294967295 rows before at r (s .so) h a l (runsBytes w i (run start (j - i) ∷ [])) (runs-step w 4294967295 i (s .from) start (j - i)) (rw runs-whole k) in
         rw (← length-entry w i start (j - i)) m
 
     pub runs-next : {q : ℕ} {out′ : List ℕ} → Written (runsBytes w i (run start (j - i) ∷ [])) p out out′ q → Passing (runsForm w) base 4294967295 rows before at q j out′
-    runs-next wr = pass-next (runsForm w) base 4294967295 rows before at r (s .so) h a l wr (runs-step w i (s .from) start (j - i))
+    runs-next wr = pass-next (runsForm w) base 4294967295 rows before at r (s .so) h a l wr (runs-step w 4294967295 i (s .from) start (j - i))
 
   pub runs-done : {p i : ℕ} {out : List ℕ} → Passing (runsForm w) base 4294967295 rows before at p i out → length rows ≤ i → Written (runsLayout w (positionsOf base rows)) at before out p
   runs-done s h = rw runs-whole at (pass-end (runsForm w) base 4294967295 rows before at r (runs-end w) s h)
@@ -65,7 +65,7 @@ module _ (span base : ℕ) (rows before : List ℕ) (at : ℕ) (r : Rising base 
     pub missing-ahead : Ahead from span start (j - i)
     missing-ahead = ahead-rows (missingForm span) base span rows before at r s h a l
 
-    holes : Step (missingForm span) i from start (j - i) (listLayout 2 (range from (start - from)))
+    holes : Step (missingForm span) span i from start (j - i) (listLayout 2 (range from (start - from)))
     holes = missing-step span i from start (j - i) (missing-ahead .some)
 
     pub missing-fits : p + (start - from) * 2 ≤ length out

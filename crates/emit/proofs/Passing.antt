@@ -44,13 +44,13 @@ module _ (form : Form) (base b : ℕ) (rows before : List ℕ) (at : ℕ) (r : R
     pub ahead-rows : Ahead from b start (j - i)
     ahead-rows = rowing-ahead form b (positionsOf base rows) before at s inside start j first end
 
-    pub room-rows : (vs : List ℕ) → Step form i from start (j - i) vs → at + length (form 0 0 (runsOf (positionsOf base rows))) ≤ length before → p + length vs ≤ length out
+    pub room-rows : (vs : List ℕ) → Step form b i from start (j - i) vs → at + length (form 0 0 (runsOf (positionsOf base rows))) ≤ length before → p + length vs ≤ length out
     room-rows = rowing-room form b (positionsOf base rows) before at s inside start j first end
 
-    pub next-rows : {vs out′ : List ℕ} {q : ℕ} → Written vs p out out′ q → Step form i from start (j - i) vs → Rowing form b (positionsOf base rows) before at q j (start + (j - i)) out′
+    pub next-rows : {vs out′ : List ℕ} {q : ℕ} → Written vs p out out′ q → Step form b i from start (j - i) vs → Rowing form b (positionsOf base rows) before at q j (start + (j - i)) out′
     next-rows = rowing-next form b (positionsOf base rows) before at s inside start j first end
 
-    pub pass-next : {vs out′ : List ℕ} {q : ℕ} → Written vs p out out′ q → Step form i from start (j - i) vs → Passing form base b rows before at q j out′
+    pub pass-next : {vs out′ : List ℕ} {q : ℕ} → Written vs p out out′ q → Step form b i from start (j - i) vs → Passing form base b rows before at q j out′
     pass-next w e = record { from = start + (j - i); so = next-rows w e }
 
   pub done-rows : {p i from : ℕ} {out : List ℕ} → Rowing form b (positionsOf base rows) before at p i from out → length rows ≤ i → Emitting (form 0 0 (runsOf (positionsOf base rows))) before at p (form (length rows) from []) out

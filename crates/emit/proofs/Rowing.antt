@@ -17,9 +17,9 @@ use Rattle.emit.proofs.Emitting.{Emitting, emitting-start, emitting-nex
 abbrev pub Form : Type 0
 Form = ℕ → ℕ → List Run → List ℕ
 
--- vs are the bytes of a run of size n at start
-abbrev pub Step : Form → ℕ → ℕ → ℕ → ℕ → List ℕ → Type 0
-Step form i from start n vs = (rs : List Run) → form i from (run start n ∷ rs) ≡ vs ++ form (i + n) (start + n) rs
+-- vs are the bytes of a run of size n at start, whatever runs come behind it
+abbrev pub Step : Form → ℕ → ℕ → ℕ → ℕ → ℕ → List ℕ → Type 0
+Step form b i from start n vs = (rs : List Run) → Apart (start + n) b rs → form i from (run start n ∷ rs) ≡ vs ++ form (i + n) (start + n) rs
 
 -- the bytes up to row i stand, and the run before it ended at from
 pub record Rowing (form : Form) (b : ℕ) (xs before : List ℕ) (at p i from : ℕ) (out : List ℕ) : Type 0 where
@@ -55,20 +55,23 @@ module _ (form : Form) (b : ℕ) (xs before : List ℕ) (at : ℕ) where
     pub rowing-ahead : Ahead from b start (j - i)
     rowing-ahead = apart-ahead (rw here at (s .ahead))
 
+    behind : Apart (start + (j - i)) b (runsOf (drop j xs))
+    behind = apart-rest (rw here at (s .ahead))
+
     pub rowing-within : (i < j) × (j ≤ length xs)
     rowing-within = rw l (run-after xs i, run-within xs i h)
 
-    pub rowing-room : (vs : List ℕ) → Step form i from start (j - i) vs → at + length (form 0 0 (runsOf xs)) ≤ length before → p + length vs ≤ length out
-    rowing-room vs e r = emitting-room (s .so) vs _ (ap (form i from) here ∙ e (runsOf (drop j xs))) r
+    pub rowing-room : (vs : List ℕ) → Step form b i from start (j - i) vs → at + length (form 0 0 (runsOf xs)) ≤ length before → p + length vs ≤ length out
+    rowing-room vs e r = emitting-room (s .so) vs _ (ap (form i from) here ∙ e (runsOf (drop j xs)) behind) r
 
-    pub rowing-next : {vs out′ : List ℕ} {q : ℕ} → Written vs p out out′ q → Step form i from start (j - i) vs → Rowing form b xs before at q j (start + (j - i)) out′
+    pub rowing-next : {vs out′ : List ℕ} {q : ℕ} → Written vs p out out′ q → Step form b i from start (j - i) vs → Rowing form b xs before at q j (start + (j - i)) out′
     rowing-next w e =
         let k : i + (j - i) ≡ j = omega (arith, rowing-within .0) in
         record {
           upto = rowing-within .1;
           inside = rowing-ahead .within;
-          ahead = apart-rest (rw here at (s .ahead));
-          so = rw k at (emitting-next (s .so) w (ap (form i from) here ∙ e (runsOf (drop j xs))));
+          ahead = behind;
+          so = rw k at (emitting-next (s .so) w (ap (form i from) here ∙ e (runsOf (drop j xs)) behind));
         }
 
   -- what is left when the rows are through

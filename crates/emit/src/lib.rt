@@ -12,6 +12,7 @@ ghost use Rattle.missing.specs.Missing.{missingLayout};
 ghost use Rattle.cost.specs.Rows.{positionsOf, Covered};
 ghost use Rattle.emit.specs.Written.{Written};
 ghost use Rattle.emit.specs.Digits.{mask, setIn, Ranged};
+ghost use Rattle.emit.specs.Groups.{countsBytes, groupAfter, Mapped};
 
 fn width(wide: bool) -> usize
     ensures { λ r. ⌜ r ≡ widthOf wide ⌝ }
@@ -115,6 +116,47 @@ fn set_range(out: &mut [u8], at: usize, start: u32, size: u32)
         set_in_word(out, at, q, n);
         q += n;
     }
+}
+
+// a less b, and 0 where b is more.
+fn less(a: usize, b: usize) -> usize
+    ensures { λ r. ⌜ r ≡ a - b ⌝ }
+{
+    if a < b { 0 } else { a - b }
+}
+
+// The rows before each group from g up to `to`, by a run and the rows before it.
+fn counts(out: &mut [u8], at: usize, g: usize, to: usize, start: usize, before: usize) -> usize
+    requires { ⌜ (g ≤ to) × (to ≤ 16777216) × (before ≤ 4294967295) × (at + 2 * (to - g) ≤ length (now out)) ⌝ }
+    ensures { λ r. ⌜ Written (countsBytes before start g (to - g)) at (now (out .entry)) (now (out .exit)) r ⌝ }
+{
+    let mut p = at;
+    let mut k = g;
+    while k < to {
+        fields::put16(out, p, ((before + less(256 * k, start)) % 65536) as u16);
+        p += 2;
+        k += 1;
+    }
+    p
+}
+
+// A run in the words and in the groups from g on. Answers the first group that begins behind it.
+fn bitmap_run(
+    out: &mut [u8],
+    at: usize,
+    words: usize,
+    g: usize,
+    start: u32,
+    size: u32,
+    before: usize,
+) -> usize
+    requires { ⌜ (g ≤ groupAfter (start + size)) × (start + size ≤ 4294967295) × (before ≤ 4294967295) × (at + 2 * groupAfter (start + size) ≤ length (now out)) × (words + 8 * ((start + size + 63) / 64) ≤ length (now out)) ⌝ }
+    ensures { λ r. ⌜ Mapped at words g start size before (now (out .entry)) (now (out .exit)) r ⌝ }
+{
+    let to = ((start + size) as usize + 255) / 256;
+    set_range(out, words, start, size);
+    counts(out, at + 2 * g, g, to, start as usize, before);
+    to
 }
 
 // ---- u64 rows, counted from base: the rows of a whole set, or of one segment as a part of its own
