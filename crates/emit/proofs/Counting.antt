@@ -21,10 +21,14 @@ use Rattle.emit.proofs.Emitting.{written-more, written-put}
 use Rattle.emit.proofs.Pieces.{put-low}
 use Rattle.emit.proofs.Rowing.{Form, Step}
 
+pub length-table : (f : ℕ → ℕ) (n : ℕ) → length (flat (λ (k : ℕ). digits 2 (f k)) n) ≡ 2 * n
+unfolding flat
+length-table f zero = refl
+length-table f (suc n) = simp (length-append, length-digits) (omega (arith, length-table f n))
+
 pub length-counts : (before start g n : ℕ) → length (countsBytes before start g n) ≡ 2 * n
-unfolding countsBytes flat
-length-counts before start g zero = refl
-length-counts before start g (suc n) = simp (length-append, length-digits) (omega (arith, length-counts before start g n))
+unfolding countsBytes
+length-counts before start g n = length-table (λ (k : ℕ). before + (256 * (g + k) - start)) n
 
 -- ---- the loop over groups: those from g up to k stand
 

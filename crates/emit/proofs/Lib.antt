@@ -8,3 +8,4 @@ pub mod Loops
 pub mod Storing
 pub mod Ranging
 pub mod Counting
+pub mod Mapping

@@ -9,6 +9,7 @@ ghost use Rattle.model.specs.Lists.{Rising, range, run};
 ghost use Rattle.lists.specs.Lists.{listLayout};
 ghost use Rattle.runs.specs.Runs.{runsBytes, runsLayout};
 ghost use Rattle.missing.specs.Missing.{missingLayout};
+ghost use Rattle.bitmap.specs.Body.{wordsOf, groupsOf, bitmapLength, bitmapLayout};
 ghost use Rattle.cost.specs.Rows.{positionsOf, Covered};
 ghost use Rattle.emit.specs.Written.{Written};
 ghost use Rattle.emit.specs.Digits.{mask, setIn, Ranged};
@@ -118,6 +119,18 @@ fn set_range(out: &mut [u8], at: usize, start: u32, size: u32)
     }
 }
 
+fn words_of(span: u32) -> usize
+    ensures { λ r. ⌜ r ≡ wordsOf span ⌝ }
+{
+    (span as usize + 63) / 64
+}
+
+fn groups_of(span: u32) -> usize
+    ensures { λ r. ⌜ r ≡ groupsOf span ⌝ }
+{
+    (words_of(span) + 3) / 4
+}
+
 // a less b, and 0 where b is more.
 fn less(a: usize, b: usize) -> usize
     ensures { λ r. ⌜ r ≡ a - b ⌝ }
@@ -214,6 +227,33 @@ pub fn missing_rows(out: &mut [u8], at: usize, rows: &[u64], base: u64, span: u3
     list_run(out, p, from, span - from, false)
 }
 
+// The words are zeros first. After the last run the groups that are left have all rows before them.
+pub fn bitmap_rows(out: &mut [u8], at: usize, rows: &[u64], base: u64, span: u32) -> usize
+    requires { ⌜ (Rising base (base + span) (now rows)) × (at + bitmapLength span ≤ length (now out)) ⌝ }
+    ensures { λ r. ⌜ Written (bitmapLayout span (positionsOf base (now (rows .entry)))) at (now (out .entry)) (now (out .exit)) r ⌝ }
+{
+    let groups = groups_of(span);
+    let words = at + 2 * groups;
+    let end = zeros(out, words, words_of(span));
+    let mut g = 0;
+    let mut i = 0;
+    while i < rows.len() {
+        let j = cost::run_end(rows, i);
+        g = bitmap_run(
+            out,
+            at,
+            words,
+            g,
+            cost::position(rows[i], base),
+            (j - i) as u32,
+            i,
+        );
+        i = j;
+    }
+    counts(out, at + 2 * g, g, groups, 256 * groups, i);
+    end
+}
+
 // ---- the same of u16 ordinals
 
 fn position16(ordinal: u16, base: u16) -> u32
@@ -273,4 +313,30 @@ pub fn missing_ordinals(out: &mut [u8], at: usize, ordinals: &[u16], base: u16, 
         i = j;
     }
     list_run(out, p, from, span - from, false)
+}
+
+pub fn bitmap_ordinals(out: &mut [u8], at: usize, ordinals: &[u16], base: u16, span: u32) -> usize
+    requires { ⌜ (Rising base (base + span) (now ordinals)) × (at + bitmapLength span ≤ length (now out)) ⌝ }
+    ensures { λ r. ⌜ Written (bitmapLayout span (positionsOf base (now (ordinals .entry)))) at (now (out .entry)) (now (out .exit)) r ⌝ }
+{
+    let groups = groups_of(span);
+    let words = at + 2 * groups;
+    let end = zeros(out, words, words_of(span));
+    let mut g = 0;
+    let mut i = 0;
+    while i < ordinals.len() {
+        let j = cost::run_end16(ordinals, i);
+        g = bitmap_run(
+            out,
+            at,
+            words,
+            g,
+            position16(ordinals[i], base),
+            (j - i) as u32,
+            i,
+        );
+        i = j;
+    }
+    counts(out, at + 2 * g, g, groups, 256 * groups, i);
+    end
 }
