@@ -85,7 +85,7 @@ module _ (s : ℕ) (rows : List ℕ) (rising : Rising 0 s rows) where
   pub layout-names : bitmapNames body s ≡ rows
   layout-names = rw laid-number named
 
-  laid-length : length body ≡ bitmapLength s
+  pub laid-length : length body ≡ bitmapLength s
   unfolding bitmapLayout
   laid-length = simp (length-append, length-digits) (omega (arith, table-length 2 stating (groupsOf s)))
 

@@ -8,7 +8,8 @@ use Rattle.model.specs.Tests.{pick, tabulate}
 use Rattle.model.specs.Lists.{range, onto, runsOf}
 use Rattle.cost.specs.declared.Stats.{Stats}
 use Rattle.cost.specs.declared.Form.{Form}
-use Rattle.cost.specs.Sizes.{wordsOf, groupsOf, bitmapLength, binary, depthOf}
+use Rattle.bitmap.specs.Body.{bitmapLength}
+use Rattle.cost.specs.Sizes.{binary, depthOf}
 use Rattle.cost.specs.Statistics.{statsOf, joined}
 use Rattle.cost.specs.Rows.{positionsOf}
 use Rattle.cost.specs.Forms.{itemsForm, bitmapForm, denseForm, orderOf, lex, keyOf, lesser, least, localOffers, localForm, runsForm, plainOffers, trimmedOffers, wholeForm}
@@ -22,12 +23,12 @@ whole start span rows = wholeForm (statsOf (positionsOf start rows)) span
 
 -- [100,105), all rows; 3 4 5; 3 4 5 6, a tie at 8 bytes where depth decides; all but 4
 short : (whole 100 5 (range 100 5) ≡ form 1 false 0 0 0) × (whole 0 10 (range 3 3) ≡ form 3 false 6 2 0) × (whole 0 10 (range 3 4) ≡ form 8 true 8 0 0) × (whole 0 10 (range 0 4 ++ range 5 5) ≡ form 7 false 6 1 0)
-unfolding whole form range tabulate statsOf positionsOf runsOf onto pick wholeForm plainOffers trimmedOffers least lesser lex keyOf orderOf runsForm itemsForm bitmapForm denseForm bitmapLength wordsOf groupsOf depthOf binary
+unfolding whole form range tabulate statsOf positionsOf runsOf onto pick wholeForm plainOffers trimmedOffers least lesser lex keyOf orderOf runsForm itemsForm bitmapForm denseForm depthOf binary
 short = (refl, refl, refl, refl)
 
 -- row 65535 and row 65536 in [0,65537); two runs; evens; ten rows far apart
 long : (whole 0 65537 (65535 ∷ []) ≡ form 3 false 2 1 0) × (whole 0 65537 (65536 ∷ []) ≡ form 2 false 4 1 0) × (whole 0 200 (range 10 10 ++ range 100 10) ≡ form 4 false 16 2 0) × (whole 0 64 (tabulate (λ (i : ℕ). 2 * i) 32) ≡ form 6 false 14 1 4) × (whole 0 200000 (tabulate (λ (i : ℕ). 100000 + 100 * i) 10) ≡ form 2 false 40 4 0)
-unfolding whole form range tabulate statsOf positionsOf runsOf onto pick wholeForm plainOffers trimmedOffers least lesser lex keyOf orderOf runsForm itemsForm bitmapForm denseForm bitmapLength wordsOf groupsOf depthOf binary
+unfolding whole form range tabulate statsOf positionsOf runsOf onto pick wholeForm plainOffers trimmedOffers least lesser lex keyOf orderOf runsForm itemsForm bitmapForm denseForm depthOf binary
 long = (refl, refl, refl, refl, refl)
 
 -- 0 to 9 without 5, and 4096 to 4105: 16 + 2 + 0 − 18 saves nothing
@@ -38,9 +39,8 @@ right : Stats
 right = statsOf (range 4096 10)
 
 zero-saving : (localForm left ≡ form 7 false 2 1 0) × (localForm right ≡ form 1 false 0 0 0) × (localForm (joined left right) ≡ form 4 false 18 2 0)
-unfolding left right form range statsOf joined runsOf onto pick localForm localOffers least lesser lex keyOf orderOf itemsForm bitmapForm denseForm bitmapLength wordsOf groupsOf depthOf binary
+unfolding left right form range statsOf joined runsOf onto pick localForm localOffers least lesser lex keyOf orderOf itemsForm bitmapForm denseForm depthOf binary
 zero-saving = (refl, refl, refl)
 
 longest : bitmapLength 65535 ≡ 8704
-unfolding bitmapLength wordsOf
 longest = refl

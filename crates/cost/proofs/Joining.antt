@@ -71,7 +71,7 @@ stats-append (x ∷ xs) (y ∷ ys) h l =
     rw (last, runs, count)
 
 -- a rising list goes up by one or more at each step
-reach : {a b : ℕ} {xs : List ℕ} → Rising a b xs → 1 ≤ length xs → getD xs 0 0 + (length xs - 1) ≤ getD xs (length xs - 1) 0
+pub reach : {a b : ℕ} {xs : List ℕ} → Rising a b xs → 1 ≤ length xs → getD xs 0 0 + (length xs - 1) ≤ getD xs (length xs - 1) 0
 reach {xs = xs} r h =
     ⊎-elim
     (λ l. omega (arith, rising-apart r 0 (length xs - 1) l (omega arith)))

@@ -2,7 +2,7 @@
 -- Assumes nothing.
 use mathlib.Core.Path.{_≡_, refl, sym, ap, _∙_}
 use mathlib.Core.Bool.{Bool, true, false, false≢true}
-use mathlib.Core.Logic.{_⊎_, inl, inr, ⊎-elim}
+use mathlib.Core.Logic.{⊎-elim}
 use mathlib.Core.List.{List, [], _∷_}
 use Prim.Native.Nat.{ℕ, zero, suc, _+_, _-_, _*_, _<_, _≤_}
 use native.Mathlib.Nat.{le-trans, eq-or-lt-of-le}
@@ -15,7 +15,7 @@ use Rattle.model.proofs.Tests.{either, order, never, pick-true, pick-false}
 use Rattle.cost.specs.declared.Stats.{Stats}
 use Rattle.cost.specs.declared.Form.{Form}
 use Rattle.cost.specs.Statistics.{spanOf}
-use Rattle.cost.specs.Sizes.{wordsOf, bitmapLength}
+use Rattle.bitmap.specs.Body.{bitmapLength}
 use Rattle.cost.specs.Forms.{itemsForm, bitmapForm, lex, keyOf, lesser, Offer, always, denseForm, least, localOffers, localForm}
 use Rattle.cost.proofs.Choices.{lex-same}
 
@@ -99,53 +99,58 @@ step-left f o =
     ⊎-elim (λ e. rw (pick-true _ _ e) (lesser-left f (o .form))) (λ e. rw (pick-false _ _ e) (not-less-self (keyOf f))) (either (o .allowed))
 
 -- no less than the first, and than each that may be taken
-pub least-first : (f : Form) (os : List Offer) → NoLess (least f os) f
+pub first-no-less : (f : Form) (os : List Offer) → NoLess (least f os) f
 unfolding least step
-least-first f [] = not-less-self (keyOf f)
-least-first f (o ∷ os) = no-less-on (least (step f o) os) (step f o) f (least-first (step f o) os) (step-left f o)
+first-no-less f [] = not-less-self (keyOf f)
+first-no-less f (o ∷ os) = no-less-on (least (step f o) os) (step f o) f (first-no-less (step f o) os) (step-left f o)
 
-pub least-each : (f : Form) (os : List Offer) (k : ℕ) (d : Offer) → k < length os → getD os k d .allowed ≡ true → NoLess (least f os) (getD os k d .form)
+pub each-no-less : (f : Form) (os : List Offer) (k : ℕ) (d : Offer) → k < length os → getD os k d .allowed ≡ true → NoLess (least f os) (getD os k d .form)
 unfolding least step
-least-each f [] k d h t = absurd (omega arith)
-least-each f (o ∷ os) zero d h t =
-    no-less-on (least (step f o) os) (step f o) (o .form) (least-first (step f o) os) (rw (pick-true _ _ t) (lesser-right f (o .form)))
-least-each f (o ∷ os) (suc k) d h t = least-each (step f o) os k d (omega arith) t
+each-no-less f [] k d h t = absurd (omega arith)
+each-no-less f (o ∷ os) zero d h t =
+    no-less-on (least (step f o) os) (step f o) (o .form) (first-no-less (step f o) os) (rw (pick-true _ _ t) (lesser-right f (o .form)))
+each-no-less f (o ∷ os) (suc k) d h t = each-no-less (step f o) os k d (omega arith) t
 
--- and it is one of them
-lesser-one : (f g : Form) → (lesser f g ≡ f) ⊎ (lesser f g ≡ g)
-unfolding lesser
-lesser-one f g = ⊎-elim (λ e. inr (pick-true _ _ e)) (λ e. inl (pick-false _ _ e)) (either (lex (keyOf g) (keyOf f)))
-
-step-one : (f : Form) (o : Offer) → (step f o ≡ f) ⊎ ((o .allowed ≡ true) × (step f o ≡ o .form))
-unfolding step
-step-one f o =
+-- and it is one of them: what holds of the first and of each that may be taken holds of it
+step-one : (P : Form → Type 0) (f : Form) (o : Offer) → P f → (o .allowed ≡ true → P (o .form)) → P (step f o)
+unfolding step lesser
+step-one P f o p q =
     ⊎-elim
-    (λ t. ⊎-elim (λ q. inl (pick-true _ _ t ∙ q)) (λ q. inr (t, pick-true _ _ t ∙ q)) (lesser-one f (o .form)))
-    (λ t. inl (pick-false _ _ t))
+    (λ t.
+    ⊎-elim
+    (λ e. rw (pick-true (lesser f (o .form)) f t, pick-true (o .form) f e) (q t))
+    (λ e. rw (pick-true (lesser f (o .form)) f t, pick-false (o .form) f e) p)
+    (either (lex (keyOf (o .form)) (keyOf f))))
+    (λ t. rw (pick-false (lesser f (o .form)) f t) p)
     (either (o .allowed))
 
-pub least-one : (f : Form) (os : List Offer) (d : Offer) → (least f os ≡ f) ⊎ ((k : ℕ) × (k < length os) × (getD os k d .allowed ≡ true) × (least f os ≡ getD os k d .form))
+pub data Each (P : Form → Type 0) : List Offer → Type 0 where
+  end : Each P []
+  also : {o : Offer} {os : List Offer} → (o .allowed ≡ true → P (o .form)) → Each P os → Each P (o ∷ os)
+
+pub least-one : (P : Form → Type 0) (f : Form) (os : List Offer) → P f → Each P os → P (least f os)
 unfolding least step
-least-one f [] d = inl refl
-least-one f (o ∷ os) d =
-    ⊎-elim
-    (λ e. ⊎-elim (λ q. inl (e ∙ q)) (λ w. inr (0, omega arith, w .0, e ∙ w .1)) (step-one f o))
-    (λ w. inr (suc (w .0), omega (arith, w .1), w .2, w .3))
-    (least-one (step f o) os d)
+least-one P f [] p q = p
+least-one P f (o ∷ os) p (also q r) = least-one P (step f o) os (step-one P f o p q) r
 
 -- so it is no longer
 pub no-longer : (f g : Form) → NoLess f g → f .bytes ≤ g .bytes
 unfolding keyOf
 no-longer f g e = not-less-head (g .bytes) (f .bytes) _ _ e
 
+pub least-first : (f : Form) (os : List Offer) → least f os .bytes ≤ f .bytes
+least-first f os = no-longer (least f os) f (first-no-less f os)
+
+pub least-each : (f : Form) (os : List Offer) (k : ℕ) (d : Offer) → k < length os → getD os k d .allowed ≡ true → least f os .bytes ≤ getD os k d .form .bytes
+least-each f os k d h t = no-longer (least f os) (getD os k d .form) (each-no-less f os k d h t)
+
 -- ---- a local payload: at most a bitmap, and so at most 8,704 bytes over 65,535 positions
 
 pub local-bitmap : (s : Stats) → localForm s .bytes ≤ bitmapLength (spanOf s)
 unfolding localForm localOffers bitmapForm
 local-bitmap s =
-    let h : localForm s .bytes ≤ 0 + bitmapLength (spanOf s) = no-longer (localForm s) (bitmapForm false 0 (spanOf s)) (least-each (itemsForm 3 false (2 * s .count) (s .count)) (localOffers s) 3 (always denseForm) (lit< tt) refl) in
+    let h : localForm s .bytes ≤ 0 + bitmapLength (spanOf s) = least-each (itemsForm 3 false (2 * s .count) (s .count)) (localOffers s) 3 (always denseForm) (lit< tt) refl in
     omega arith
 
 pub local-short : (s : Stats) → spanOf s ≤ 65535 → localForm s .bytes ≤ 8704
-unfolding bitmapLength wordsOf
 local-short s h = le-trans (local-bitmap s) (omega arith)

@@ -5,3 +5,5 @@ pub mod Joining
 pub mod RunByRun
 pub mod Positions
 pub mod Examples
+pub mod Chosen
+pub mod Layouts

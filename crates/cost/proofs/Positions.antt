@@ -9,7 +9,7 @@ use lib.Dec.{eqb}
 use lib.ListN.{length, getD, take, drop}
 use borrow.Author.Tests.{eq-eqb, eqb-true}
 use Rattle.model.specs.Tests.{pick}
-use Rattle.model.specs.Lists.{Rising, none, more, shift, onto, runsOf}
+use Rattle.model.specs.Lists.{Rising, none, more, shift, lower, onto, runsOf}
 use Rattle.model.proofs.Tests.{same-test}
 use Rattle.model.proofs.Rising.{rising-room, rising-from, rising-below}
 use Rattle.cost.specs.declared.Stats.{Stats}
@@ -73,13 +73,16 @@ runs-shift b (x ∷ []) = refl
 runs-shift b (x ∷ y ∷ ys) =
     omega (arith, runs-cons (b + x) (b + y) (shift b ys), runs-cons x y ys, ap (λ (t : Bool). pick {A = ℕ} t 1 0) (follows-shift b x y), runs-shift b (y ∷ ys))
 
+pub runs-positions : {a b : ℕ} {rows : List ℕ} (start : ℕ) → start ≤ a → Rising a b rows → length (runsOf (positionsOf start rows)) ≡ length (runsOf rows)
+runs-positions {a} {b} {rows} start h r = sym (runs-shift start (positionsOf start rows)) ∙ ap (λ (xs : List ℕ). length (runsOf xs)) (sym (positions-back start h r))
+
 -- ---- statistics
 
 pub stats-rows : (start : ℕ) (rows : List ℕ) → Covered start rows → statsOf (positionsOf start rows) ≡ record { first = getD rows 0 0 - start; last = getD rows (length rows - 1) 0 - start; count = length rows; runs = length (runsOf rows) }
 unfolding statsOf
 stats-rows start rows k =
     let s = k .some in
-    let runs : length (runsOf (positionsOf start rows)) ≡ length (runsOf rows) = sym (runs-shift start (positionsOf start rows)) ∙ ap (λ (xs : List ℕ). length (runsOf xs)) (sym (positions-back start (omega arith) (k .rising))) in
+    let runs = runs-positions start (omega arith) (k .rising) in
     rw (length-positions, getD-positions start rows 0 s, getD-positions start rows (length rows - 1) (omega arith), runs)
 
 -- how many such rows there can be, and where their positions lie
@@ -93,3 +96,9 @@ pub covered-sound : (start : ℕ) (rows : List ℕ) → Covered start rows → S
 covered-sound start rows k =
     let e : start + 4294967295 - start ≡ 4294967295 = omega arith in
     stats-sound (rw e at (positions-rising start (omega arith) (k .rising))) (rw length-positions (k .some)) (omega arith)
+
+-- the model's own word for it
+pub positions-lower : (start : ℕ) (rows : List ℕ) → positionsOf start rows ≡ lower start rows
+unfolding positionsOf lower
+positions-lower start [] = refl
+positions-lower start (r ∷ rs) = rw (positions-lower start rs)

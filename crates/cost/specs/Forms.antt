@@ -5,7 +5,8 @@ use mathlib.Core.List.{List, [], _∷_, _++_}
 use Prim.Native.Nat.{ℕ, _+_, _-_, _*_, _≤_, _<_}
 use lib.Dec.{eqb, leb, ltb}
 use Rattle.model.specs.Tests.{pick}
-use Rattle.cost.specs.Sizes.{groupsOf, bitmapLength, depthOf}
+use Rattle.bitmap.specs.Body.{groupsOf, bitmapLength}
+use Rattle.cost.specs.Sizes.{depthOf}
 use Rattle.cost.specs.Statistics.{Sound, spanOf, holesOf}
 use Rattle.cost.specs.declared.Stats.{Stats}
 use Rattle.cost.specs.declared.Form.{Form}

@@ -8,7 +8,8 @@ ghost use Rattle.model.specs.Tests.{pick};
 ghost use Rattle.model.specs.Lists.{runsOf};
 ghost use Rattle.cost.specs.Statistics.{Sound, Neighbours, statsOf, joined, spanOf};
 ghost use Rattle.cost.specs.Rows.{positionsOf, runEnd, Covered};
-ghost use Rattle.cost.specs.Sizes.{bitmapLength, depthOf};
+ghost use Rattle.bitmap.specs.Body.{bitmapLength};
+ghost use Rattle.cost.specs.Sizes.{depthOf};
 ghost use Rattle.cost.specs.Forms.{Over, itemsForm, bitmapForm, denseForm, orderOf, lex, keyOf, lesser, least, localForm, runsForm, plainOffers, wholeForm};
 
 // Statistics of some positions that rise: first and last, how many, and how many runs they make.
@@ -82,11 +83,12 @@ fn bitmap(trimmed: bool, header: u64, span: u64) -> Form
     requires { ⌜ (header ≤ 12) × (span ≤ 4294967295) ⌝ }
     ensures { λ r. ⌜ r ≡ bitmapForm trimmed header span ⌝ }
 {
+    let words = (span + 63) / 64;
     Form {
         tag: 6,
         trimmed: trimmed,
         bytes: header + bitmap_length(span),
-        depth: depth((span + 255) / 256),
+        depth: depth((words + 3) / 4),
         words: 4,
     }
 }

@@ -6,3 +6,4 @@ pub mod Examples
 pub mod Seeds
 pub mod Windows
 pub mod InTurn
+pub mod Elsewhere

@@ -1,17 +1,14 @@
 -- The dense form: every position of the span.
 -- Assumes nothing.
-use mathlib.Core.Path.{_≡_, refl, sym, ap, _∙_}
-use mathlib.Core.Bool.{Bool, true, false}
+use mathlib.Core.Path.{_≡_, refl, _∙_}
+use mathlib.Core.Bool.{true, false}
 use mathlib.Core.List.{List, [], _∷_}
-use Prim.Native.Nat.{ℕ, zero, suc, _+_, _-_, _<_, _≤_}
-use native.Mathlib.Nat.{zero-add, add-suc, suc-add}
+use Prim.Native.Nat.{ℕ, suc, _+_, _<_, _≤_}
+use native.Mathlib.Nat.{zero-add}
 use native.Mathlib.Omega.{arith}
-use lib.Dec.{eqb}
 use lib.ListN.{length, getD}
 use borrow.Author.Tests.{eq-eqb, eqb-true}
-use Rattle.model.specs.Tests.{both}
-use Rattle.model.specs.Lists.{Rising, none, more, range, below, has, placeOf}
-use Rattle.model.specs.declared.Place.{Place}
+use Rattle.model.specs.Lists.{Rising, none, more, range, below, placeOf}
 use Rattle.model.proofs.Tests.{both-true, both-left, both-right}
 use Rattle.model.proofs.Rising.{rising-room}
 use Rattle.model.proofs.Standing.{has-outside}

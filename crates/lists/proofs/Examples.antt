@@ -7,7 +7,6 @@ use Prim.Native.Nat.{ℕ}
 use Rattle.fields.specs.Le.{le, digits}
 use Rattle.model.specs.Tests.{both, pick, all, tabulate}
 use Rattle.model.specs.Lists.{counted, range}
-use Rattle.model.specs.declared.Place.{Place}
 use Rattle.search.specs.Search.{entry, find, bsearch, upTo, allowed}
 use Rattle.lists.specs.Lists.{denseAccepts, denseNames, listLayout, climbs, risesBelow, listAccepts, listNames, placeAt, listPlace}
 

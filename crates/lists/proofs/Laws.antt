@@ -1,17 +1,17 @@
 -- The laws of the list form, over the width w. T1: a list that fits is laid out, accepted and read back. T2: an accepted body is the
 -- layout of what it names. T3: what it names rises below the span and has the count. T4: place and select are the list's; the walk's contract says it of the list already.
 -- Assumes nothing.
-use mathlib.Core.Path.{_≡_, refl, sym, ap, _∙_}
-use mathlib.Core.Bool.{Bool, true, false}
+use mathlib.Core.Path.{_≡_, sym, _∙_}
+use mathlib.Core.Bool.{true}
 use mathlib.Core.List.{List}
-use Prim.Native.Nat.{ℕ, _+_, _*_, _^_, _<_, _≤_}
-use native.Mathlib.Nat.{mod-eq-of-lt, le-of-eq, zero-add}
+use Prim.Native.Nat.{ℕ, _*_, _^_, _<_, _≤_}
+use native.Mathlib.Nat.{mod-eq-of-lt}
 use native.Mathlib.Omega.{arith}
 use lib.ListN.{length, getD}
 use lib.Seq.{ext-getD, take-all}
 use borrow.Author.Tests.{eq-eqb, eqb-true}
 use Rattle.fields.specs.Le.{Bytes}
-use Rattle.model.specs.Tests.{both, tabulate}
+use Rattle.model.specs.Tests.{tabulate}
 use Rattle.model.specs.Lists.{Rising, placeOf}
 use Rattle.model.proofs.Tests.{both-true, both-left, both-right, length-tabulate, getD-tabulate}
 use Rattle.model.proofs.Rising.{rising-room}

@@ -1,19 +1,17 @@
 -- Where a position stands: what the code answers of the search, and that it is right of the list.
 -- Assumes nothing.
-use mathlib.Core.Path.{_≡_, refl, sym, ap, _∙_}
-use mathlib.Core.Bool.{Bool, true, false}
+use mathlib.Core.Path.{_≡_, sym, _∙_}
+use mathlib.Core.Bool.{true, false}
 use mathlib.Core.Logic.{⊎-elim}
-use mathlib.Core.List.{List}
-use Prim.Native.Nat.{ℕ, zero, suc, _+_, _-_, _<_, _≤_}
+use Prim.Native.Nat.{ℕ, zero, suc, _-_, _<_, _≤_}
 use native.Mathlib.Nat.{eq-or-lt-of-le}
 use native.Mathlib.Omega.{arith}
-use lib.Dec.{leb, eqb}
+use lib.Dec.{eqb}
 use lib.ListN.{length, getD}
 use borrow.Author.Tests.{eq-eqb, ne-eqb, leb-true, leb-false}
 use Rattle.model.specs.Tests.{pick, tabulate}
 use Rattle.model.specs.Lists.{Rising, below, has, placeOf}
-use Rattle.model.specs.declared.Place.{Place}
-use Rattle.model.proofs.Tests.{either, same-or-not, last-or-before, pick-true, pick-false, length-tabulate, getD-tabulate}
+use Rattle.model.proofs.Tests.{either, same-or-not, pick-true, pick-false, length-tabulate, getD-tabulate}
 use Rattle.model.proofs.Rising.{rising-strict}
 use Rattle.model.proofs.Standing.{below-cut, below-at, has-at, has-index}
 use Rattle.search.specs.Search.{find, upTo, allowed, Cut}

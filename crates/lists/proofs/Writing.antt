@@ -1,12 +1,12 @@
 -- A loop that writes positions into a lent slice, one after the other, and what it has written in the end.
 -- Assumes nothing.
-use mathlib.Core.Path.{_≡_, refl, sym, ap, _∙_}
+use mathlib.Core.Path.{_≡_, refl, sym, _∙_}
 use mathlib.Core.List.{List, [], _∷_, _++_}
-use Prim.Native.Nat.{ℕ, zero, suc, _+_, _-_, _%_, _<_, _≤_, min}
+use Prim.Native.Nat.{ℕ, _+_, _-_, _%_, _<_, _≤_, min}
 use native.Mathlib.Nat.{zero-add}
 use native.Mathlib.Omega.{arith}
-use lib.ListN.{length, getD, take, drop, set, length-append, length-take, length-drop, length-set}
-use lib.Seq.{sets, length-sets, sets-eq, ext-getD, getD-take, getD-drop}
+use lib.ListN.{length, take, drop, set, length-append, length-take, length-drop, length-set}
+use lib.Seq.{sets, sets-eq, ext-getD, getD-take, getD-drop}
 use Rattle.fields.proofs.Laws.{sets-append}
 use Rattle.model.specs.Tests.{tabulate}
 use Rattle.model.specs.Lists.{range, moved, walkOf}

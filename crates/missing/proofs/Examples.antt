@@ -1,13 +1,12 @@
 -- Document 01's example of the form missing, computed: [0, 10), all but 4, the local part 04 00.
 -- Assumes nothing.
 use mathlib.Core.Path.{_≡_, refl}
-use mathlib.Core.Bool.{true, false, not}
-use mathlib.Core.List.{List, [], _∷_, _++_}
+use mathlib.Core.Bool.{true, false}
+use mathlib.Core.List.{List, [], _∷_}
 use Prim.Native.Nat.{ℕ}
 use Rattle.fields.specs.Le.{le, digits}
 use Rattle.model.specs.Tests.{both, pick, all, tabulate}
 use Rattle.model.specs.Lists.{counted, range, complement}
-use Rattle.model.specs.declared.Place.{Place}
 use Rattle.search.specs.Search.{entry, find, bsearch, upTo, allowed}
 use Rattle.lists.specs.Lists.{listLayout, climbs, risesBelow, listNames, placeAt, listPlace}
 use Rattle.missing.specs.Missing.{missingLayout, missingAccepts, missingNames, besides, missingPlace, holesBefore, missingSelect, missingFrom}

@@ -1,26 +1,23 @@
 -- The laws of the form missing. T1: a list that fits is laid out, accepted and read back. T2: an accepted body is the layout of what it
 -- names. T3: what it names rises below the span and has the count. T4: place, select and the walk are the list's.
 -- Assumes nothing.
-use mathlib.Core.Path.{_≡_, refl, sym, ap, _∙_}
-use mathlib.Core.Bool.{Bool, true, false, not}
+use mathlib.Core.Path.{_≡_, sym, ap, _∙_}
+use mathlib.Core.Bool.{true, false}
 use mathlib.Core.Logic.{⊎-elim}
 use mathlib.Core.List.{List}
-use Prim.Native.Nat.{ℕ, zero, suc, _+_, _-_, _*_, _^_, _<_, _≤_}
+use Prim.Native.Nat.{ℕ, _+_, _-_, _*_, _^_, _<_, _≤_}
 use native.Mathlib.Nat.{zero-add}
 use native.Mathlib.Omega.{arith}
-use lib.Dec.{leb, ltb}
 use lib.ListN.{length, getD, take, drop}
 use borrow.Author.Tests.{eq-eqb, eqb-true, le-leb, leb-true, leb-false, lt-ltb, le-ltb}
 use Rattle.fields.specs.Le.{Bytes}
-use Rattle.model.specs.Tests.{both, pick, tabulate}
-use Rattle.model.specs.Lists.{Rising, complement, below, has, placeOf, walkOf}
-use Rattle.model.specs.declared.Place.{Place}
+use Rattle.model.specs.Lists.{Rising, complement, below, placeOf, walkOf}
 use Rattle.model.proofs.Tests.{both-true, both-left, both-right, order, pick-true, pick-false}
 use Rattle.model.proofs.Counted.{Count, counted-right, counted-count}
 use Rattle.model.proofs.Rising.{rising-room, rising-below, rising-apart}
 use Rattle.model.proofs.Standing.{below-whole, has-outside}
 use Rattle.model.proofs.Complement.{complement-rising, complement-length, complement-below, complement-has, complement-twice, complement-select}
-use Rattle.search.specs.Search.{find, upTo, allowed, Cut}
+use Rattle.search.specs.Search.{upTo, allowed, Cut}
 use Rattle.search.proofs.Laws.{find-cut, falls-gaps}
 use Rattle.lists.specs.Lists.{item, risesBelow, listLayout, listNames, listPlace}
 use Rattle.lists.proofs.Bytes.{length-layout}

@@ -43,7 +43,7 @@ entry-behind v base s head xs i e = le-same v (head ++ xs) xs (base + suc i * s)
 head-length : (w s z b : ℕ) → length (digits w s ++ digits 2 z ++ digits 2 b) ≡ strideOf w
 head-length w s z b = simp (length-append, length-digits) (omega arith)
 
-length-bytes : (w b : ℕ) (rs : List Run) → length (runsBytes w b rs) ≡ length rs * strideOf w
+pub length-bytes : (w b : ℕ) (rs : List Run) → length (runsBytes w b rs) ≡ length rs * strideOf w
 unfolding runsBytes
 length-bytes w b [] = rw zero-mul
 length-bytes w b (r ∷ rs) = rw (length-append, head-length, length-bytes w (b + r .size) rs, suc-mul) (omega arith)

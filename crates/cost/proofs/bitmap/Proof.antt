@@ -2,12 +2,11 @@
 -- Assumes nothing.
 use borrow.Author.Needs.{needs}
 use native.Mathlib.Omega.{arith}
-use Rattle.cost.specs.Sizes.{wordsOf, groupsOf, bitmapLength}
 use Rattle.cost.specs.Forms.{bitmapForm}
 use Rattle.cost.proofs.bitmap.Statement.{statement}
 use Rattle.cost.proofs.bitmap.Tie as tie
 
 pub bitmap-spec : {M : Type 1} → statement M
-unfolding bitmapForm groupsOf bitmapLength wordsOf
+unfolding bitmapForm
 bitmap-spec =
-    tie.close (tie.spec (λ c κs. search needs) (λ c. omega arith) (λ c. search needs) (λ c κs. search needs) (λ c. rw (c .before .bitmap-length .ensures, c .depth .ensures)))
+    tie.close (tie.spec (λ c. search needs) (λ c κs. search needs) (λ c. omega arith) (λ c. search needs) (λ c κs. search needs) (λ c. rw (c .before .bitmap-length .ensures, c .depth .ensures)))

@@ -1,12 +1,10 @@
 -- `cost::bitmap_length` meets its contract.
 -- Assumes nothing.
 use borrow.Author.Needs.{needs}
-use Rattle.cost.specs.Sizes.{wordsOf, bitmapLength}
 use Rattle.cost.proofs.bitmap_length.Statement.{statement}
 use Rattle.cost.proofs.bitmap_length.Tie as tie
 
 pub bitmap-length-spec : {M : Type 1} → statement M
-unfolding bitmapLength wordsOf
 bitmap-length-spec =
     tie.close
     (tie.spec (λ c. search needs) (λ c. search needs) (λ c. search needs) (λ c. search needs) (λ c. search needs) (λ c. search needs))

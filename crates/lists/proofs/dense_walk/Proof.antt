@@ -1,6 +1,5 @@
 -- `lists::dense_walk` meets its contract: what fits or remains is one range.
 -- Assumes nothing.
-use mathlib.Core.Path.{_∙_}
 use native.Mathlib.Nat.{zero-add}
 use native.Mathlib.Omega.{arith}
 use borrow.Author.Needs.{needs}

@@ -1,6 +1,6 @@
 -- `missing::place` meets its contract: past the span, or beside the holes.
 -- Assumes nothing.
-use mathlib.Core.Path.{sym, _∙_}
+use mathlib.Core.Path.{sym}
 use borrow.Author.Tests.{lt-ltb, le-ltb}
 use borrow.Author.Needs.{needs}
 use Rattle.fields.specs.Le.{widthOf}

@@ -1,7 +1,5 @@
 -- `missing::up_to` meets its contract: what fits of the stretch is filled in.
 -- Assumes nothing.
-use mathlib.Core.Path.{ap}
-use native.Mathlib.Omega.{arith}
 use borrow.Author.Needs.{needs}
 use Rattle.missing.proofs.up_to.Statement.{statement}
 use Rattle.missing.proofs.up_to.Tie as tie

@@ -1,6 +1,6 @@
 -- `missing::walk` meets its contract: what stands in the output and what the holes from i on leave are the whole answer.
 -- Assumes nothing.
-use mathlib.Core.Path.{refl, sym, _∙_}
+use mathlib.Core.Path.{_∙_}
 use Prim.Native.Nat.{_-_}
 use native.Mathlib.Omega.{arith}
 use lib.ListN.{length, take}

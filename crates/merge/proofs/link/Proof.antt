@@ -1,0 +1,20 @@
+-- `merge::link` meets its contract.
+-- Assumes nothing.
+use Rattle.merge.specs.Tables.{linked}
+use borrow.Author.Needs.{needs}
+use Rattle.merge.proofs.link.Statement.{statement}
+use Rattle.merge.proofs.link.Tie as tie
+
+pub link-spec : {M : Type 1} → statement M
+unfolding linked
+link-spec =
+    tie.close
+    (tie.spec
+    (λ c. search needs)
+    (λ c κs. search needs)
+    (λ c κs. search needs)
+    (λ c. search needs)
+    (λ c κs. search needs)
+    (λ c κs. search needs)
+    (λ c. search needs)
+    (λ c. cc))

@@ -1,0 +1,16 @@
+-- `merge::live` meets its contract.
+-- Assumes nothing.
+use Rattle.merge.specs.Tables.{isLive}
+use Rattle.merge.proofs.Adds.{and-both}
+use borrow.Author.Needs.{needs}
+use Rattle.merge.proofs.live.Statement.{statement}
+use Rattle.merge.proofs.live.Tie as tie
+
+pub live-spec : {M : Type 1} → statement M
+unfolding isLive
+live-spec =
+    tie.close
+    (tie.spec
+    (λ c κs. search needs)
+    (λ c κs. search needs)
+    (λ c. rw (c .before .cell .ensures .0, c .cell2 .ensures .0) (and-both _ _)))

@@ -1,0 +1,6 @@
+pub mod Rule
+pub mod Links
+pub mod Keys
+pub mod Pairs
+pub mod Tables
+pub mod Contracts

@@ -1,0 +1,4 @@
+pub mod Keys
+pub mod Order
+pub mod Turns
+pub mod Tail

@@ -1,0 +1,24 @@
+-- `rowset::walk` meets its contract.
+-- Assumes nothing.
+use mathlib.Core.Path.{sym, _∙_, ap}
+use borrow.Author.Tests.{not-true, not-false}
+use Rattle.model.specs.Answers.{accepted}
+use Rattle.model.proofs.Tests.{pick-true, pick-false}
+use mathlib.Core.List.{_∷_, []}
+use Prim.Native.Nat.{ℕ}
+use Rattle.rowset.specs.Calls.{filledOf, walkAnswer, walkLeft}
+use Rattle.rowset.proofs.Asking.{refuses, answers}
+use borrow.Author.Needs.{needs}
+use Rattle.rowset.proofs.walk.Statement.{statement}
+use Rattle.rowset.proofs.walk.Tie as tie
+
+pub walk-spec : {M : Type 1} → statement M
+unfolding filledOf walkAnswer walkLeft
+walk-spec =
+    tie.close
+    (tie.spec
+    (λ c κs. search needs)
+    (λ c. (refuses _ _ _ _ (sym (c .before .is-accepted .ensures) ∙ not-true _ (c .if1 .taken)), sym (pick-false _ _ (sym (c .before .is-accepted .ensures) ∙ not-true _ (c .if1 .taken)))))
+    (λ c κs. (sym (c .before .before .is-accepted .ensures) ∙ not-false _ (c .before .if1 .left)))
+    (λ c. search needs)
+    (λ c. (answers _ _ _ (sym (c .before .before .before .before .before .is-accepted .ensures) ∙ not-false _ (c .before .before .before .before .if1 .left)) (ap (λ (n : ℕ). accepted (n ∷ [])) (c .before .before .write .ensures .number)), c .before .before .write .ensures .written ∙ sym (pick-true _ _ (sym (c .before .before .before .before .before .is-accepted .ensures) ∙ not-false _ (c .before .before .before .before .if1 .left))))))

@@ -1,0 +1,27 @@
+-- `segmented::place_in` meets its contract.
+-- Assumes nothing.
+use mathlib.Core.Path.{_∙_, ap}
+use native.Mathlib.Omega.{arith}
+use Rattle.segmented.specs.Segmented.{countedFrom, placeIn, selectIn, walkIn}
+use Rattle.segmented.proofs.Named.{part-sized}
+use borrow.Author.Needs.{needs}
+use Rattle.segmented.proofs.place_in.Statement.{statement}
+use Rattle.segmented.proofs.place_in.Tie as tie
+
+pub place-in-spec : {M : Type 1} → statement M
+unfolding placeIn countedFrom
+place-in-spec =
+    tie.close
+    (tie.spec
+    (λ c. search needs)
+    (λ c. search needs)
+    (λ c. search needs)
+    (λ c. search needs)
+    (λ c. search needs)
+    (λ c. search needs)
+    (λ c. search needs)
+    (λ c. search needs)
+    (λ c κs. part-sized _ _ (c .before .before .before .before .before .before .pre .0))
+    (λ c. search needs)
+    (λ c κs. search needs)
+    (λ c. cc))
