@@ -10,7 +10,7 @@ ghost use Rattle.lists.specs.Lists.{listLayout};
 ghost use Rattle.runs.specs.Runs.{runsBytes, runsLayout};
 ghost use Rattle.missing.specs.Missing.{missingLayout};
 ghost use Rattle.bitmap.specs.Body.{wordsOf, groupsOf, bitmapLength, bitmapLayout};
-ghost use Rattle.cost.specs.Rows.{positionsOf, Covered};
+ghost use Rattle.cost.specs.Rows.{positionsOf};
 ghost use Rattle.emit.specs.Written.{Written};
 ghost use Rattle.emit.specs.Digits.{mask, setIn, Ranged};
 ghost use Rattle.emit.specs.Groups.{countsBytes, groupAfter, Mapped};
@@ -175,7 +175,7 @@ fn bitmap_run(
 // ---- u64 rows, counted from base: the rows of a whole set, or of one segment as a part of its own
 
 pub fn list_rows(out: &mut [u8], at: usize, rows: &[u64], base: u64, wide: bool) -> usize
-    requires { ⌜ (Covered base (now rows)) × (at + length (listLayout (widthOf wide) (positionsOf base (now rows))) ≤ length (now out)) ⌝ }
+    requires { ⌜ (Rising base (base + 4294967295) (now rows)) × (at + length (listLayout (widthOf wide) (positionsOf base (now rows))) ≤ length (now out)) ⌝ }
     ensures { λ r. ⌜ Written (listLayout (widthOf wide) (positionsOf base (now (rows .entry)))) at (now (out .entry)) (now (out .exit)) r ⌝ }
 {
     let mut p = at;
@@ -189,7 +189,7 @@ pub fn list_rows(out: &mut [u8], at: usize, rows: &[u64], base: u64, wide: bool)
 }
 
 pub fn runs_rows(out: &mut [u8], at: usize, rows: &[u64], base: u64, wide: bool) -> usize
-    requires { ⌜ (Covered base (now rows)) × (length (now rows) ≤ 65535) × (at + length (runsLayout (widthOf wide) (positionsOf base (now rows))) ≤ length (now out)) ⌝ }
+    requires { ⌜ (Rising base (base + 4294967295) (now rows)) × (length (now rows) ≤ 65535) × (at + length (runsLayout (widthOf wide) (positionsOf base (now rows))) ≤ length (now out)) ⌝ }
     ensures { λ r. ⌜ Written (runsLayout (widthOf wide) (positionsOf base (now (rows .entry)))) at (now (out .entry)) (now (out .exit)) r ⌝ }
 {
     let mut p = at;
@@ -264,7 +264,7 @@ fn position16(ordinal: u16, base: u16) -> u32
 }
 
 pub fn list_ordinals(out: &mut [u8], at: usize, ordinals: &[u16], base: u16, wide: bool) -> usize
-    requires { ⌜ (Covered base (now ordinals)) × (at + length (listLayout (widthOf wide) (positionsOf base (now ordinals))) ≤ length (now out)) ⌝ }
+    requires { ⌜ (Rising base (base + 4294967295) (now ordinals)) × (at + length (listLayout (widthOf wide) (positionsOf base (now ordinals))) ≤ length (now out)) ⌝ }
     ensures { λ r. ⌜ Written (listLayout (widthOf wide) (positionsOf base (now (ordinals .entry)))) at (now (out .entry)) (now (out .exit)) r ⌝ }
 {
     let mut p = at;
@@ -278,7 +278,7 @@ pub fn list_ordinals(out: &mut [u8], at: usize, ordinals: &[u16], base: u16, wid
 }
 
 pub fn runs_ordinals(out: &mut [u8], at: usize, ordinals: &[u16], base: u16, wide: bool) -> usize
-    requires { ⌜ (Covered base (now ordinals)) × (length (now ordinals) ≤ 65535) × (at + length (runsLayout (widthOf wide) (positionsOf base (now ordinals))) ≤ length (now out)) ⌝ }
+    requires { ⌜ (Rising base (base + 4294967295) (now ordinals)) × (length (now ordinals) ≤ 65535) × (at + length (runsLayout (widthOf wide) (positionsOf base (now ordinals))) ≤ length (now out)) ⌝ }
     ensures { λ r. ⌜ Written (runsLayout (widthOf wide) (positionsOf base (now (ordinals .entry)))) at (now (out .entry)) (now (out .exit)) r ⌝ }
 {
     let mut p = at;

@@ -24,24 +24,24 @@ runs-rows-spec =
     (tie.spec
     Inv-loop
     μ-loop
-    (λ c. pass-start _ _ _ _ _ _ (c .before .before .pre .0 .rising))
+    (λ c. pass-start _ _ _ _ _ _ (c .before .before .pre .0))
     (λ c κs. search needs)
     (λ c. search needs)
     (λ c. search needs)
-    (λ c κs. row-at (c .before .before .before .before .before .before .before .pre .0 .rising) _ (c .before .before .before .loop-test .taken))
+    (λ c κs. row-at (c .before .before .before .before .before .before .before .pre .0) _ (c .before .before .before .loop-test .taken))
     (λ c. let k = c .before .before .before .before in omega (arith, ends _ _ (k .loop-test .taken) (c .before .before .before .run-end .ensures)))
     (λ c. let k = c .before .before .before .before in omega (arith, ends _ _ (k .loop-test .taken) (c .before .before .before .run-end .ensures)))
     (λ c. omega arith)
     (λ c κs.
     let k = c .before .before .before .before in
     let g = k .before .before .before .before .pre in
-    runs-fits _ _ _ _ _ (g .0 .rising) (k .before .loop .inv) (k .loop-test .taken) (c .position .ensures) (c .before .before .before .run-end .ensures) (g .2))
+    runs-fits _ _ _ _ _ (g .0) (k .before .loop .inv) (k .loop-test .taken) (c .position .ensures) (c .before .before .before .run-end .ensures) (g .2))
     (λ c.
     let k = c .before .before .before .before .before .before in
     omega (arith, ends _ _ (k .before .loop-test .taken) (k .run-end .ensures)))
     (λ c.
     let k = c .before .before .before .before .before .before in
     let g = k .before .before .before .before .before .pre in
-    runs-next _ _ _ _ _ (g .0 .rising) (k .before .before .loop .inv) (k .before .loop-test .taken) (c .before .before .before .position .ensures) (k .run-end .ensures) (c .before .before .run-entry .ensures))
+    runs-next _ _ _ _ _ (g .0) (k .before .before .loop .inv) (k .before .loop-test .taken) (c .before .before .before .position .ensures) (k .run-end .ensures) (c .before .before .run-entry .ensures))
     (λ c. emitting-length (c .before .loop .inv .so .so))
-    (λ c. runs-done _ _ _ _ _ (c .before .before .before .before .pre .0 .rising) (c .before .loop .inv) (c .loop-test .left)))
+    (λ c. runs-done _ _ _ _ _ (c .before .before .before .before .pre .0) (c .before .loop .inv) (c .loop-test .left)))
