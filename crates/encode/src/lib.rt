@@ -134,3 +134,74 @@ pub fn trimmed_rows(out: &mut [u8], rows: &[u64], start: u64, tag: u8) -> usize
     let p = missing_header(out, 0, base, span, n as u16);
     local_rows(out, p, rows, first, 7, span)
 }
+
+// ---- the same of u16 ordinals, which are their own positions
+
+pub fn local_ordinals(
+    out: &mut [u8],
+    at: usize,
+    ordinals: &[u16],
+    base: u16,
+    tag: u8,
+    span: u32,
+) -> usize
+    requires { ⌜ (Rising base (base + span) (now ordinals)) × (length (now ordinals) ≤ 65535) × (at + length (localLayout tag span (positionsOf base (now ordinals))) ≤ length (now out)) ⌝ }
+    ensures { λ r. ⌜ Written (localLayout tag span (positionsOf base (now (ordinals .entry)))) at (now (out .entry)) (now (out .exit)) r ⌝ }
+{
+    if tag == 2 {
+        return emit::list_ordinals(out, at, ordinals, base, true);
+    }
+    if tag == 3 {
+        return emit::list_ordinals(out, at, ordinals, base, false);
+    }
+    if tag == 4 {
+        return emit::runs_ordinals(out, at, ordinals, base, false);
+    }
+    if tag == 5 {
+        return emit::runs_ordinals(out, at, ordinals, base, true);
+    }
+    if tag == 6 {
+        return emit::bitmap_ordinals(out, at, ordinals, base, span);
+    }
+    if tag == 7 {
+        return emit::missing_ordinals(out, at, ordinals, base, span);
+    }
+    at
+}
+
+pub fn plain_ordinals(out: &mut [u8], ordinals: &[u16], tag: u8, span: u32, runs: u16) -> usize
+    requires { ⌜ (Rising 0 (0 + span) (now ordinals)) × (length (now ordinals) ≤ 65535) × (runs ≡ length (runsOf (positionsOf 0 (now ordinals)))) × (length (plainLayout tag span (positionsOf 0 (now ordinals))) ≤ length (now out)) ⌝ }
+    ensures { λ r. ⌜ Written (plainLayout tag span (positionsOf 0 (now (ordinals .entry)))) 0 (now (out .entry)) (now (out .exit)) r ⌝ }
+{
+    let p = plain_header(out, 0, tag, ordinals.len() as u16, runs);
+    local_ordinals(out, p, ordinals, 0, tag, span)
+}
+
+fn wide(x: u16) -> u32
+    ensures { λ r. ⌜ r ≡ x - 0 ⌝ }
+{
+    x as u32
+}
+
+fn extent16(first: u16, last: u16) -> u32
+    requires { ⌜ first ≤ last ⌝ }
+    ensures { λ r. ⌜ r ≡ last - first + 1 ⌝ }
+{
+    (last - first) as u32 + 1
+}
+
+pub fn trimmed_ordinals(out: &mut [u8], ordinals: &[u16], tag: u8) -> usize
+    requires { ⌜ (Covered 0 (now ordinals)) × (length (now ordinals) ≤ 65535) × (length (trimmedLayout tag (positionsOf 0 (now ordinals))) ≤ length (now out)) ⌝ }
+    ensures { λ r. ⌜ Written (trimmedLayout tag (positionsOf 0 (now (ordinals .entry)))) 0 (now (out .entry)) (now (out .exit)) r ⌝ }
+{
+    let n = ordinals.len();
+    let first = ordinals[0];
+    let base = wide(first);
+    let span = extent16(first, ordinals[n - 1]);
+    if tag == 6 {
+        let p = bitmap_header(out, 0, base, span, n as u16);
+        return local_ordinals(out, p, ordinals, first, 6, span);
+    }
+    let p = missing_header(out, 0, base, span, n as u16);
+    local_ordinals(out, p, ordinals, first, 7, span)
+}
