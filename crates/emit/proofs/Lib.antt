@@ -1,0 +1,11 @@
+pub mod Emitting
+pub mod Pieces
+pub mod Rows
+pub mod Rowing
+pub mod Forms
+pub mod Passing
+pub mod Loops
+pub mod Storing
+pub mod Ranging
+pub mod Counting
+pub mod Mapping

@@ -1,0 +1,4 @@
+pub mod Headers
+pub mod Locals
+pub mod Wholes
+pub mod Directories

@@ -1,0 +1,41 @@
+-- `encode::trimmed_ordinals` meets its contract: one of two headers, and the local layout behind it.
+-- Assumes nothing.
+use mathlib.Core.Path.{refl}
+use native.Mathlib.Omega.{arith}
+use borrow.Author.Needs.{needs}
+use Rattle.encode.proofs.Wholes.{rising-ends, ends-in, bitmap-own, missing-own, bitmap-head, missing-head, rest-room, both-written}
+use Rattle.encode.proofs.trimmed_ordinals.Statement.{statement}
+use Rattle.encode.proofs.trimmed_ordinals.Tie as tie
+
+pub trimmed-ordinals-spec : {M : Type 1} → statement M
+trimmed-ordinals-spec =
+    tie.close
+    (tie.spec
+    (λ c. omega (arith, c .before .before .before .pre .0 .some))
+    (λ c κs. search needs)
+    (λ c. omega (arith, c .before .before .before .before .pre .0 .some))
+    (λ c. omega (arith, c .before .before .before .before .pre .1))
+    (λ c. omega (arith, c .before .before .before .before .before .pre .0 .some))
+    (λ c κs. let e = ends-in _ _ (c .before .before .before .before .before .pre .0) in e .1)
+    (λ c. omega (arith, c .before .before .before .before .before .before .before .before .pre .1))
+    (λ c κs. let x = c .before .before in let g = c .before .before .before .before .before .before .before .before .pre in bitmap-head _ _ (g .0) (x .before .before .wide .ensures) (x .extent16 .ensures) refl (c .before .if1 .taken) (g .2))
+    (λ c κs.
+    let g = c .before .before .before .before .before .before .before .before .before .before .before .before .pre in
+    let x = c .before .before .before .before .before .before in
+    (rising-ends (g .0 .rising) (g .0 .some) (x .extent16 .ensures), g .1, rest-room _ _ (bitmap-own _ _ (g .0) (x .before .before .wide .ensures) (x .extent16 .ensures) refl (c .before .before .before .before .before .if1 .taken)) (c .before .before .before .bitmap-header .ensures) (g .2)))
+    (λ c. search needs)
+    (λ c.
+    let g = c .before .before .before .before .before .before .before .before .before .before .before .before .before .before .before .pre in
+    let x = c .before .before .before .before .before .before .before .before .before in
+    both-written _ _ (bitmap-own _ _ (g .0) (x .before .before .wide .ensures) (x .extent16 .ensures) refl (c .before .before .before .before .before .before .before .before .if1 .taken)) (c .before .before .before .before .before .before .bitmap-header .ensures) (c .before .before .local-ordinals .ensures))
+    (λ c. omega (arith, c .before .before .before .before .before .before .before .before .pre .1))
+    (λ c κs. let x = c .before .before in let g = c .before .before .before .before .before .before .before .before .pre in missing-head _ _ (g .0) (x .before .before .wide .ensures) (x .extent16 .ensures) refl (c .before .if1 .left) (g .2))
+    (λ c κs.
+    let g = c .before .before .before .before .before .before .before .before .before .before .before .before .pre in
+    let x = c .before .before .before .before .before .before in
+    (rising-ends (g .0 .rising) (g .0 .some) (x .extent16 .ensures), g .1, rest-room _ _ (missing-own _ _ (g .0) (x .before .before .wide .ensures) (x .extent16 .ensures) refl (c .before .before .before .before .before .if1 .left)) (c .before .before .before .missing-header .ensures) (g .2)))
+    (λ c. search needs)
+    (λ c.
+    let g = c .before .before .before .before .before .before .before .before .before .before .before .before .before .before .before .pre in
+    let x = c .before .before .before .before .before .before .before .before .before in
+    both-written _ _ (missing-own _ _ (g .0) (x .before .before .wide .ensures) (x .extent16 .ensures) refl (c .before .before .before .before .before .before .before .before .if1 .left)) (c .before .before .before .before .before .before .missing-header .ensures) (c .before .before .local-ordinals2 .ensures)))
