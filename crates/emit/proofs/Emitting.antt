@@ -8,7 +8,8 @@ use native.Mathlib.Omega.{arith}
 use lib.ListN.{length, length-append}
 use lib.Seq.{sets, length-sets}
 use Rattle.fields.specs.Le.{digits, put}
-use Rattle.fields.proofs.Laws.{sets-append, length-digits}
+use Rattle.fields.proofs.Laws.{length-digits}
+use Rattle.model.proofs.Sets.{sets-append}
 use Rattle.emit.specs.Written.{Written}
 
 -- of the whole, which goes from at on, the rest goes from p on, and what comes before it stands in out

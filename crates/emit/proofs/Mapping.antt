@@ -9,7 +9,8 @@ use lib.ListN.{length, getD, take, length-append}
 use lib.Pow.{pow-mono}
 use lib.Seq.{sets, length-sets, take-all}
 use Rattle.fields.specs.Le.{digits, put}
-use Rattle.fields.proofs.Laws.{sets-append, length-digits}
+use Rattle.fields.proofs.Laws.{length-digits}
+use Rattle.model.proofs.Sets.{sets-append}
 use Rattle.model.specs.Tests.{flat}
 use Rattle.model.specs.Lists.{Rising, below, range, runsOf}
 use Rattle.model.proofs.Rising.{rising-room}

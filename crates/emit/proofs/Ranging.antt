@@ -11,7 +11,7 @@ use lib.Pow.{pow-pos, pow-mono, pow-add, shr-lt, shl-exact, high, low, split, hi
 use lib.ListN.{length}
 use Rattle.fields.specs.Le.{le, put}
 use Rattle.fields.proofs.Laws.{put-split, le-put, le-put-below, length-put}
-use Rattle.bitmap.proofs.Le.{pow-bytes}
+use Rattle.fields.proofs.Binary.{pow-bytes}
 use Rattle.emit.specs.Digits.{mask, setIn, Ranged}
 use Rattle.emit.proofs.Storing.{put-comm, put-over}
 

@@ -9,7 +9,8 @@ use native.Mathlib.Omega.{arith}
 use lib.ListN.{length, length-append}
 use lib.Seq.{sets, length-sets}
 use Rattle.fields.specs.Le.{digits, put}
-use Rattle.fields.proofs.Laws.{sets-append, length-digits}
+use Rattle.fields.proofs.Laws.{length-digits}
+use Rattle.model.proofs.Sets.{sets-append}
 use Rattle.model.specs.Tests.{flat, total}
 use Rattle.model.proofs.Tests.{flat-step}
 use Rattle.directory.specs.Directory.{directorySize}
