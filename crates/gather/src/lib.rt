@@ -155,7 +155,7 @@ pub fn gather_row(g: Gatherer, table: &mut [u16], row: u64) -> Gathered
 }
 
 // Whether rows rise strictly.
-fn rises(rows: &[u64]) -> bool
+pub fn rises(rows: &[u64]) -> bool
     ensures { λ r. ⌜ r ≡ rises (now (rows .entry)) ⌝ }
 {
     let mut ok = true;

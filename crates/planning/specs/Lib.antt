@@ -1,0 +1,4 @@
+pub mod Refusals
+pub mod Segments
+pub mod Bodies
+pub mod Planning
