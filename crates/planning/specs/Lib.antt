@@ -2,3 +2,4 @@ pub mod Refusals
 pub mod Segments
 pub mod Bodies
 pub mod Planning
+pub mod Held
