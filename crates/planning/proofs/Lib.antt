@@ -1,2 +1,4 @@
 pub mod Singly
 pub mod Choosing
+pub mod Sound
+pub mod Injective
