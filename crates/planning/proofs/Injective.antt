@@ -1,14 +1,13 @@
 -- No two row sets have one body: accepted plans over coverages of one span that give the same tag and body have the same positions,
 -- whatever the seeds, limits, workspaces and outputs were.
 -- Assumes nothing.
-use mathlib.Core.Path.{_≡_, refl, sym, ap, _∙_}
+use mathlib.Core.Path.{_≡_, sym, ap, _∙_}
 use mathlib.Core.List.{List}
 use Prim.Native.Nat.{ℕ, _-_}
 use native.Mathlib.Nat.{le-refl}
 use Rattle.model.specs.Lists.{shift}
 use Rattle.cost.specs.Rows.{positionsOf}
 use Rattle.cost.proofs.Positions.{positions-back}
-use Rattle.rowset.specs.Bodies.{names}
 use Rattle.planning.specs.Planning.{plannedSegments, plannedForm, plannedBody, planNumber}
 use Rattle.planning.proofs.Sound.{Fit, SegmentedGood, planned, plan-early, early-fit}
 
