@@ -117,7 +117,7 @@ pub record Planned (start end : ℕ) (rows seeds : List ℕ) (limit room : ℕ) 
   pub holds : Holds (plannedForm start end rows seeds .tag) (end - start) (positionsOf start rows) (plannedBody start end rows seeds)
 
 -- the late tests, 6 and 7
-late-zero : (bytes limit room : ℕ) → lateNumber bytes limit room ≡ 0 → (bytes ≤ limit) × (bytes ≤ 65535) × (bytes ≤ room)
+pub late-zero : (bytes limit room : ℕ) → lateNumber bytes limit room ≡ 0 → (bytes ≤ limit) × (bytes ≤ 65535) × (bytes ≤ room)
 unfolding lateNumber
 late-zero bytes limit room e =
     let a = peel (both (leb bytes limit) (leb bytes 65535)) _ 6 (λ e. omega arith) e in
