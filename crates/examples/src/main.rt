@@ -1,14 +1,16 @@
-// Document 01's bodies, read by the public calls: each answer on a line of its own, in ten digits, or a word.
+// Document 01's bodies, read by the public calls, and its pages and rows, gathered: each answer on a line of its own, in ten digits, or a word.
+mod gathering;
+
 use libc::STDOUT_FILENO;
 use rowset::Checked;
 use rowset::Ranked;
 use rowset::Selected;
 
-fn digit(n: u32) -> u8 {
+fn digit(n: u64) -> u8 {
     48 + (n % 10) as u8
 }
 
-fn say(n: u32) {
+fn say(n: u64) {
     let text = [
         digit(n / 1000000000),
         digit(n / 100000000),
@@ -23,6 +25,14 @@ fn say(n: u32) {
         b'\n',
     ];
     io::write_all(STDOUT_FILENO, &text);
+}
+
+fn say32(n: u32) {
+    say(n as u64);
+}
+
+fn say16(n: u16) {
+    say(n as u64);
 }
 
 fn say_refused() {
@@ -41,14 +51,14 @@ fn say_nothing() {
 
 fn say_checked(c: Checked) {
     match c {
-        Checked::Rows(n) => say(n as u32),
+        Checked::Rows(n) => say16(n),
         Checked::Refused => say_refused(),
     }
 }
 
 fn say_ranked(r: Ranked) {
     match r {
-        Ranked::Ordinal(k) => say(k as u32),
+        Ranked::Ordinal(k) => say16(k),
         Ranked::Nothing => say_nothing(),
         Ranked::Refused => say_refused(),
     }
@@ -56,7 +66,7 @@ fn say_ranked(r: Ranked) {
 
 fn say_selected(s: Selected) {
     match s {
-        Selected::Position(p) => say(p),
+        Selected::Position(p) => say32(p),
         Selected::Nothing => say_nothing(),
         Selected::Refused => say_refused(),
     }
@@ -139,12 +149,14 @@ fn ask_segmented() {
     say_selected(rowset::select(9, 200000, &body, 12));
     let mut out = [7u32; 3];
     rowset::walk(9, 200000, &body, 10, &mut out);
-    say(out[0]);
-    say(out[1]);
-    say(out[2]);
+    say32(out[0]);
+    say32(out[1]);
+    say32(out[2]);
 }
 
 fn main() {
     check_bodies();
     ask_segmented();
+    gathering::pages();
+    gathering::rows();
 }
