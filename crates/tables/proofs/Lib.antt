@@ -1,0 +1,5 @@
+pub mod Facts
+pub mod Pieces
+pub mod Filling
+pub mod Walk
+pub mod Laws
