@@ -15,7 +15,6 @@ use Rattle.model.specs.Answers.{Answer, accepted, refused}
 use Rattle.model.proofs.Tests.{either, order, same-or-not, pick-true, pick-false, length-tabulate}
 use Rattle.directory.specs.Directory.{statedSegments, entryOf}
 use Rattle.directory.specs.declared.Segment.{Segment}
-use Rattle.directory.proofs.Parts.{Directory}
 use Rattle.segmented.proofs.Named.{directory-of}
 use Rattle.rowset.specs.Bodies.{accepts}
 use Rattle.rowset.specs.Calls.{checkedOf, validateOf}

@@ -9,7 +9,7 @@ use native.Mathlib.Omega.{arith}
 use lib.ListN.{length, getD, drop, List·getD-append}
 use lib.Seq.{drop-append-seam}
 use borrow.Author.Tests.{eq-eqb, ne-eqb, lt-ltb, le-ltb}
-use Rattle.model.specs.Answers.{accepted, refused}
+use Rattle.model.specs.Answers.{accepted}
 use Rattle.model.proofs.Tests.{same-or-not, pick-true, pick-false, getD-tabulate}
 use Rattle.directory.specs.Directory.{statedSegments, entryOf}
 use Rattle.directory.specs.declared.Segment.{Segment}

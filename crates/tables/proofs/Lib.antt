@@ -3,3 +3,4 @@ pub mod Pieces
 pub mod Filling
 pub mod Walk
 pub mod Laws
+pub mod Lending

@@ -73,3 +73,24 @@ pub fn segments(tag: u8, span: u32, body: &[u8], table: &mut [Segment]) -> Fille
     }
     answer
 }
+
+// ---- the call over a table by value
+
+// A table of two records, and the answer.
+pub struct Pair {
+    pub answer: Filled,
+    pub table: [Segment; 2],
+}
+
+// The same over a table that is handed in and back: whoever calls this lends nothing, and is covered.
+pub fn segments_pair(tag: u8, span: u32, body: &[u8], table: [Segment; 2]) -> Pair
+    ensures { λ r. ⌜ filledOf (r .answer) ≡ segmentsAnswer tag span (now (body .entry)) 2 ⌝ }
+    ensures { λ r. ⌜ r .table ≡ segmentsLeft tag span (now (body .entry)) table ⌝ }
+{
+    let mut lent = table;
+    let answer = segments(tag, span, body, &mut lent);
+    Pair {
+        answer: answer,
+        table: lent,
+    }
+}

@@ -1,7 +1,7 @@
 -- `tables::segments` meets its contract: a walk of its MIR, by hand, since it takes a slice of structs. Two calls before the loop answer what is to be done,
 -- the loop stores one entry a turn, and the answer is handed back. Cut into the loop, the second call and the first: as one proof it passes the step limit.
 -- Assumes nothing.
-use Rattle.tables.proofs.Walk.{_≡_, refl, sym, ap, subst, _∙_, ℕ, _+_, _-_, _<_, _≤_, _*_, _^_, zero-le, le-antisymm, lt-of-le-of-lt, add-one-le, add-one-dec, arith, WellFounded, InvImage·wf, [], _∷_, List, length, set, getD, Nat·lt-wfRel, ltb, ltb→lt, nltb→le, lit<, URA, fullShare, Ty, Body, named, imm, mut, w8, w16, w32, w64, tyInt, tyBool, tyPtr, tyRef, Val, vint, vptr, vstruct, vnil, vcons, SProp, ent, sep, emp, via, fst∗, exE, snd∗, id⊢, Lft, Share, GName, Fml, ftrue, fat, froom, fdies, flft, fobs, fauth, fbor, fobor, Memory, Routine, Heap, Out, Env, afterSeq, afterBlock, afterTurn, Wp, atReturn, WpFn, Tables, Atoms, sem, Fun, fact, givenOf, tables, tablesOf, AllOutlive, Given, Item, Sq, runs, ‵, raw, some, later, _⊛_, ⋆, anyQ, atRet, _$_, _∵_, !, qed, by, move, keep, drop, use1, use2, split, join, pick, rewrite, fsplit, fjoin, suffices, frame, await, done, look, init, store, forget, stop, hop, fld, from, load, lit, of-opd, bin, and-then, no-more, assigns, assigns-last, land, first, skips, jumps, blocks, branches, returns, enter, alloc1, alloc0, params1, pass1, pass0, free1, free0, exec, Below, again, loops, whole, sub, look-in, fmOf, WpFn-mono, owns, cellAt, pointee, pureI, Is, shows, uint-makes, uint-vals, uint-tells, uint-lawful, u8, u32, usize, RefT, sliceTy, sliceVal, MutSlice, ShrSlice, Room, heres, codedHoleys, at-slice, slice-vals, mut-slice-tells, shr-slice-tells, shr-slice-copy, Held, place, place-is, row, elem-out, elem-put, opens-slice, closes-slice, only, owned, peeks, heard, nothing, onEntry, Meets, tripleOf, Contract, Triple, calls-at, ensured, lasts, entered, cited, says, Stays, stay-slice, stay-none, stay-none-slice, walkOf, goes-slice, goes-none, goes-none-slice, Walks, ends-at, walked, walk-meets, yes, plain}
+use Rattle.tables.proofs.Walk.{_≡_, refl, sym, ap, subst, _∙_, ℕ, _+_, _-_, _<_, _≤_, _*_, _^_, zero-le, le-antisymm, lt-of-le-of-lt, add-one-le, add-one-dec, arith, WellFounded, InvImage·wf, [], _∷_, List, length, set, getD, Nat·lt-wfRel, ltb→lt, nltb→le, lit<, URA, fullShare, Ty, Body, named, imm, mut, w8, w16, w32, w64, tyInt, tyBool, tyPtr, tyRef, Val, vint, vptr, vstruct, vnil, vcons, SProp, ent, sep, emp, via, fst∗, exE, snd∗, id⊢, Lft, Share, GName, Fml, ftrue, fat, froom, fdies, flft, fobs, fauth, fbor, fobor, Memory, Routine, Heap, Out, Env, afterSeq, afterBlock, afterTurn, Wp, atReturn, WpFn, Tables, Atoms, sem, Fun, fact, givenOf, tables, tablesOf, AllOutlive, Given, Item, Sq, runs, ‵, raw, some, later, _⊛_, ⋆, anyQ, atRet, _$_, _∵_, !, qed, by, move, keep, drop, use1, use2, split, join, pick, rewrite, fsplit, fjoin, suffices, frame, await, done, look, init, store, forget, stop, hop, fld, from, load, lit, of-opd, bin, and-then, no-more, assigns, assigns-last, land, first, skips, jumps, blocks, branches, returns, enter, alloc1, alloc0, params1, pass1, pass0, free1, free0, exec, Below, again, loops, whole, sub, look-in, fmOf, WpFn-mono, owns, cellAt, pointee, pureI, Is, shows, uint-makes, uint-vals, uint-tells, uint-lawful, u8, u32, usize, RefT, sliceTy, sliceVal, MutSlice, ShrSlice, Room, heres, codedHoleys, at-slice, slice-vals, mut-slice-tells, shr-slice-tells, shr-slice-copy, Held, place, place-is, row, elem-out, elem-put, opens-slice, closes-slice, only, owned, peeks, heard, nothing, onEntry, Meets, tripleOf, Contract, Triple, calls-at, ensured, lasts, entered, cited, says, Stays, stay-slice, stay-none, stay-none-slice, walkOf, goes-slice, goes-none, goes-none-slice, Walks, ends-at, walked, walk-meets, yes, plain}
 use Rattle.tables.proofs.Facts.{says-both}
 use base.Fml.{fsep}
 use denote.Struct.Laws as LL
