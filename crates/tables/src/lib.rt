@@ -3,7 +3,6 @@ use directory::Segment;
 use rowset::Checked;
 use rowset::Filled;
 ghost use mathlib.Core.Path.{_≡_};
-ghost use mathlib.Core.Bool.{true};
 ghost use Prim.Native.Nat.{_+_, _*_, _≤_};
 ghost use lib.ListN.{length};
 ghost use Rattle.directory.specs.Directory.{entryOf};
@@ -22,7 +21,7 @@ fn is_taken(c: Checked) -> bool
     }
 }
 
-// What `segments` answers, from the room alone: nothing is stored.
+// What `segments` answers, from the body and the room alone: nothing is stored.
 fn planned(tag: u8, span: u32, body: &[u8], room: usize) -> Filled
     ensures { λ r. ⌜ filledOf r ≡ segmentsAnswer tag span (now (body .entry)) room ⌝ }
 {
