@@ -1,0 +1,4 @@
+pub mod Choice
+pub mod Writing
+pub mod Answers
+pub mod Ready

@@ -1,0 +1,4 @@
+pub mod Plans
+pub mod Merging
+pub mod Placed
+pub mod Emission
