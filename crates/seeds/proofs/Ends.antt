@@ -1,15 +1,15 @@
 -- Ends of seeds that follow one another: test 4 in two parts, and what the first of them says of every end.
 -- Assumes nothing.
-use mathlib.Core.Path.{_≡_, refl, sym, ap, _∙_}
+use mathlib.Core.Path.{_≡_, refl, sym, _∙_}
 use mathlib.Core.Bool.{Bool, true, false, _&&_, not}
 use mathlib.Core.List.{List}
 use Prim.Native.Nat.{ℕ, zero, suc, _+_, _-_, _<_, _≤_}
 use native.Mathlib.Numerals.{add-one}
 use native.Mathlib.Omega.{arith}
-use lib.Dec.{eqb, leb, ltb}
+use lib.Dec.{eqb, ltb}
 use lib.ListN.{length, getD}
 use borrow.Author.Tests.{ltb-true, lt-ltb, le-leb, eqb-true, eq-eqb, ne-eqb, not-true, not-false}
-use Rattle.model.specs.Tests.{pick, both, all}
+use Rattle.model.specs.Tests.{both, all}
 use Rattle.model.proofs.Tests.{same-test, both-true, both-left, both-right, both-first, all-at, all-from, all-step, pick-true, pick-false}
 use Rattle.model.proofs.Windows.{windows-level}
 use Rattle.gather.specs.Gather.{upAt, rises}

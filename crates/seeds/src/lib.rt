@@ -1,4 +1,6 @@
 // Planning before merging: tests 1 to 5, and the seeds' statistics in the records of the workspace.
+mod records;
+
 ghost use mathlib.Core.Path.{_≡_};
 ghost use mathlib.Core.Bool.{true};
 ghost use mathlib.Core.List.{[]};
@@ -11,6 +13,8 @@ ghost use Rattle.gather.specs.Seeds.{seedsFit, windows};
 ghost use Rattle.planning.specs.Refusals.{coverageFits, rowsFit, givenFit, endsOf};
 ghost use Rattle.seeds.specs.Ends.{endsRise, near, nearAt, together};
 ghost use Rattle.seeds.specs.Judged.{Judged};
+pub use records::put_ordinals;
+pub use records::put_rows;
 
 // The number of the first test that is not met, or 0; and then how many seeds there are.
 pub struct Early {

@@ -1,8 +1,6 @@
 -- `seeds::count_seeds` meets its contract.
 -- Assumes nothing.
-use mathlib.Core.Path.{refl, _∙_}
 use borrow.Author.Needs.{needs}
-use lib.ListN.{length}
 use Rattle.seeds.proofs.Ends.{none-ends, given-ends}
 use Rattle.seeds.proofs.count_seeds.Statement.{statement}
 use Rattle.seeds.proofs.count_seeds.Tie as tie
