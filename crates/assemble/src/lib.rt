@@ -10,7 +10,7 @@ ghost use Rattle.cost.specs.Forms.{localForm};
 ghost use Rattle.planning.specs.Bodies.{larger};
 ghost use Rattle.emit.specs.Written.{Written};
 ghost use Rattle.encode.specs.Segments.{Placed};
-ghost use Rattle.assemble.specs.Emission.{payloadBy, entryBy, Small, Piece, Emittable, Emitted};
+ghost use Rattle.assemble.specs.Emission.{payloadBy, entryBy, Small, Piece, Emittable, Emitted, Writable, Laid};
 ghost use Rattle.assemble.specs.Sums.{one, also, finished, Adds, Bounded, Known, Summed};
 
 // ---- what the segments cost together
@@ -173,6 +173,30 @@ pub fn segmented_rows(
     at
 }
 
+// The body that a form asks for: the segmented one, or a whole one. The summary is at hand from the choice.
+pub fn body_rows(
+    out: &mut [u8],
+    rows: &[u64],
+    start: u64,
+    span: u32,
+    f: cost::Form,
+    sum: Summary,
+    w: &[u32],
+    n: usize,
+) -> usize
+    requires { ⌜ Writable n (now w) start (now rows) span f sum (length (now out)) ⌝ }
+    ensures { λ r. ⌜ Laid n (now (w .entry)) start (now (rows .entry)) span f (now (out .entry)) (now (out .exit)) r ⌝ }
+{
+    if f.tag == 9 {
+        return segmented_rows(out, rows, start, w, n, sum.segments);
+    }
+    if f.trimmed {
+        return encode::trimmed_rows(out, rows, start, f.tag);
+    }
+    let all = sum.stats;
+    encode::plain_rows(out, rows, start, f.tag, span, all.runs as u16)
+}
+
 // ---- the same of u16 ordinals, which are their own positions
 
 fn place_ordinals(
@@ -216,4 +240,26 @@ pub fn segmented_ordinals(
     }
     head(out, a as u16, segments as u16);
     at
+}
+
+pub fn body_ordinals(
+    out: &mut [u8],
+    ordinals: &[u16],
+    span: u32,
+    f: cost::Form,
+    sum: Summary,
+    w: &[u32],
+    n: usize,
+) -> usize
+    requires { ⌜ Writable n (now w) 0 (now ordinals) span f sum (length (now out)) ⌝ }
+    ensures { λ r. ⌜ Laid n (now (w .entry)) 0 (now (ordinals .entry)) span f (now (out .entry)) (now (out .exit)) r ⌝ }
+{
+    if f.tag == 9 {
+        return segmented_ordinals(out, ordinals, w, n, sum.segments);
+    }
+    if f.trimmed {
+        return encode::trimmed_ordinals(out, ordinals, f.tag);
+    }
+    let all = sum.stats;
+    encode::plain_ordinals(out, ordinals, f.tag, span, all.runs as u16)
 }
