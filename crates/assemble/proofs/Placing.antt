@@ -58,11 +58,11 @@ module _ (s : Stats) (rows : List ℕ) where
       let size : r - at ≡ length (payloadBy s rows) = rw (by-form e) (omega (arith, w .behind)) in
       rw size (p .small)
 
-  pub piece-placed : (ordinal : ℕ) {f : Form} {place at r q : ℕ} {g : Segment} {xs ys zs : List ℕ} → f ≡ localForm s → Written (layoutOf f) at xs ys r → g ≡ entryBy s (f .tag) ordinal at (r - at) → Written (entryBytes g) place ys zs q
-      → Placed place at (entryBy s (localForm s .tag) ordinal at (length (payloadBy s rows))) (payloadBy s rows) xs zs r
-  piece-placed ordinal {at = at} {r = r} {q = q} {ys = ys} e w d v =
+  pub piece-placed : (i ordinal : ℕ) {f : Form} {place at r q : ℕ} {g : Segment} {xs ys zs : List ℕ} → f ≡ localForm s → Written (layoutOf f) at xs ys r → place ≡ directorySize i → g ≡ entryBy s (f .tag) ordinal at (r - at) → Written (entryBytes g) place ys zs q
+      → Placed (directorySize i) at (entryBy s (localForm s .tag) ordinal at (length (payloadBy s rows))) (payloadBy s rows) xs zs r
+  piece-placed i ordinal {at = at} {r = r} {q = q} {ys = ys} e w l d v =
       let size : r - at ≡ length (payloadBy s rows) = rw (by-form e) (omega (arith, w .behind)) in
-      record { between = ys; body = rw (by-form e) w; behind = q; entry = rw (← e, ← size, ← d) v }
+      record { between = ys; body = rw (by-form e) w; behind = q; entry = rw (← e, ← size, ← d, ← l) v }
 
 placed-same : {place at r : ℕ} {e f : Segment} {us vs xs ys : List ℕ} → e ≡ f → us ≡ vs → Placed place at e us xs ys r → Placed place at f vs xs ys r
 placed-same p q w = rw (← p, ← q) w
@@ -98,9 +98,9 @@ module _ (start : ℕ) (rows : List ℕ) (k : Covered start rows) where
   unfolding entryBy statsOf firstOf tagOf
   entry-own ordinal offset size = rw (trimmed-extent start rows k, span-own)
 
-  piece-own : {at i ordinal room : ℕ} → spanOf (statsOf P) ≤ 65535 → ordinal ≤ 65535 → at + length (payloadOf P) ≤ 65535 → at + length (payloadOf P) ≤ room → 4 + 16 * i + 16 ≤ room → Piece (statsOf P) rows at i ordinal room
+  piece-own : {at i ordinal room : ℕ} → spanOf (statsOf P) ≤ 65535 → ordinal ≤ 65535 → at + length (payloadOf P) ≤ 65535 → at + length (payloadOf P) ≤ room → i ≤ 65535 → directorySize i + 16 ≤ room → Piece (statsOf P) rows at i ordinal room
   unfolding statsOf
-  piece-own short o all fits entry =
+  piece-own short o all fits index entry =
       let sound = covered-sound start rows k in
       record {
         sound = sound;
@@ -109,6 +109,7 @@ module _ (start : ℕ) (rows : List ℕ) (k : Covered start rows) where
         rising = rising-ends (k .rising) (k .some) span-own;
         small = rw payload-own (record { ordered = sound .ordered; short = short; count = omega (arith, sound .inside); ordinals = o; offsets = omega arith; sizes = omega arith });
         fits = rw payload-own fits;
+        index = index;
         entry = entry;
       }
 
@@ -133,9 +134,9 @@ directory-room g =
     (omega (arith, g .short, g .count), omega (arith, g .fits, g .count))
 
 module _ {n : ℕ} {t : List ℕ} {start : ℕ} {rows : List ℕ} {m : ℕ} {before : List ℕ} where
-  pub placing-start : Emittable n t start rows m (length before) → Placing n t start rows m before 0 0 0 (4 + 16 * m) before
+  pub placing-start : {at : ℕ} → at ≡ directorySize m → Emittable n t start rows m (length before) → Placing n t start rows m before 0 0 0 at before
   unfolding total
-  placing-start g = record { given = g; rest = g .kept .held; most = omega arith; sum = refl; laying = laying-start (entriesOf (g .kept .segs)) (payloadAt (g .kept .segs)) m before refl }
+  placing-start e g = record { given = g; rest = g .kept .held; most = omega arith; sum = refl; laying = laying-start (entriesOf (g .kept .segs)) (payloadAt (g .kept .segs)) m before e }
 
   module _ {x i a at : ℕ} {out : List ℕ} (s : Placing n t start rows m before x i a at out) where
     abbrev segs : List (List ℕ)
@@ -206,7 +207,7 @@ module _ {n : ℕ} {t : List ℕ} {start : ℕ} {rows : List ℕ} {m : ℕ} {bef
             let f : at + length (payloadOf (positionsOf start next-rows)) ≤ length (segmentedLayout segs) = rw part-own fits in
             let d = directory-room g in
             let l = left in
-            rw (taken-own, stats-own) (piece-own start next-rows part-covered (rw part-own (h .short)) (omega (arith, s .most, g .kept .few)) (omega (arith, g .short)) (omega (arith, g .fits)) (omega arith))
+            rw (taken-own, stats-own) (piece-own start next-rows part-covered (rw part-own (h .short)) (omega (arith, s .most, g .kept .few)) (omega (arith, g .short)) (omega (arith, g .fits)) (omega arith) (omega arith))
 
         payload-is : payloadBy u (take (a + u .count - a) (drop a rows)) ≡ payloadOf (h .seg)
         payload-is = rw (taken-own, stats-own) (payload-own start next-rows part-covered ∙ ap payloadOf part-own)
@@ -218,12 +219,12 @@ module _ {n : ℕ} {t : List ℕ} {start : ℕ} {rows : List ℕ} {m : ℕ} {bef
             rw (payload-is, stats-own) (entry-own start next-rows part-covered a at (length (payloadOf (h .seg))) ∙ ap (λ (xs : List ℕ). entryOf xs a at (length (payloadOf (h .seg)))) part-own
             ∙ sym (ap (λ (xs : List ℕ). entryOf xs _ _ (length (payloadOf xs))) segment-is ∙ ap₂ (λ (o f : ℕ). entryOf (h .seg) o f (length (payloadOf (h .seg)))) (s .sum) offset))
 
-        placed-next : {out′ : List ℕ} {r : ℕ} → Placed (4 + 16 * i) at (entryBy u (localForm u .tag) a at (length (payloadBy u (take (a + u .count - a) (drop a rows))))) (payloadBy u (take (a + u .count - a) (drop a rows))) out out′ r
+        placed-next : {out′ : List ℕ} {r : ℕ} → Placed (directorySize i) at (entryBy u (localForm u .tag) a at (length (payloadBy u (take (a + u .count - a) (drop a rows))))) (payloadBy u (take (a + u .count - a) (drop a rows))) out out′ r
             → Placing n t start rows m before (next t x) (i + 1) (a + u .count) r out′
         unfolding entriesOf payloadAt tagOf total
         placed-next {out′} {r} p =
             let payload : payloadBy u (take (a + u .count - a) (drop a rows)) ≡ payloadAt segs i = payload-is ∙ ap payloadOf (sym segment-is) in
-            let placed : Placed (4 + 16 * i) at (entryFor (entriesOf segs) m i) (payloadAt segs i) out out′ r = placed-same entry-is payload p in
+            let placed : Placed (directorySize i) at (entryFor (entriesOf segs) m i) (payloadAt segs i) out out′ r = placed-same entry-is payload p in
             record {
               given = s .given;
               rest = rw (count-own, rest-own, rest-segments) (h .held);
@@ -238,7 +239,7 @@ module _ {n : ℕ} {t : List ℕ} {start : ℕ} {rows : List ℕ} {m : ℕ} {bef
     pub turn-asks : {u : Stats} → x < n → u ≡ statAt t x → Piece u (take (a + u .count - a) (drop a rows)) at i a (length out)
     turn-asks l e = piece-next (ahead l (s .rest)) e
 
-    pub turn-next : {u : Stats} {y : ℕ} {out′ : List ℕ} {r : ℕ} → x < n → u ≡ statAt t x → Placed (4 + 16 * i) at (entryBy u (localForm u .tag) a at (length (payloadBy u (take (a + u .count - a) (drop a rows))))) (payloadBy u (take (a + u .count - a) (drop a rows))) out out′ r
+    pub turn-next : {u : Stats} {y : ℕ} {out′ : List ℕ} {r : ℕ} → x < n → u ≡ statAt t x → Placed (directorySize i) at (entryBy u (localForm u .tag) a at (length (payloadBy u (take (a + u .count - a) (drop a rows))))) (payloadBy u (take (a + u .count - a) (drop a rows))) out out′ r
         → y ≡ next t x → Placing n t start rows m before y (i + 1) (a + u .count) r out′
     turn-next l e p q = rw q (placed-next (ahead l (s .rest)) e p)
 

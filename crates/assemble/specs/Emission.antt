@@ -11,6 +11,7 @@ use Rattle.cost.specs.Statistics.{spanOf, Sound}
 use Rattle.cost.specs.Rows.{positionsOf, Covered}
 use Rattle.cost.specs.Forms.{localForm}
 use Rattle.forms.specs.Forms.{localLayout}
+use Rattle.directory.specs.Directory.{directorySize}
 use Rattle.directory.specs.declared.Segment.{Segment}
 use Rattle.emit.specs.Written.{Written}
 use Rattle.planning.specs.Bodies.{segmentedLayout, layoutBy}
@@ -42,7 +43,8 @@ pub record Piece (s : Stats) (rows : List ℕ) (at i ordinal room : ℕ) : Type 
   pub rising : Rising (getD rows 0 0) (getD rows 0 0 + spanOf s) rows
   pub small : Small s ordinal at (length (payloadBy s rows))
   pub fits : at + length (payloadBy s rows) ≤ room
-  pub entry : 4 + 16 * i + 16 ≤ room
+  pub index : i ≤ 65535
+  pub entry : directorySize i + 16 ≤ room
 
 -- the records hold the rows in segments
 pub record Kept (n : ℕ) (t : List ℕ) (start : ℕ) (rows : List ℕ) : Type 0 where

@@ -8,6 +8,7 @@ ghost use Rattle.fields.specs.Le.{digits};
 ghost use Rattle.cost.specs.Statistics.{Sound};
 ghost use Rattle.cost.specs.Forms.{localForm};
 ghost use Rattle.planning.specs.Bodies.{larger};
+ghost use Rattle.directory.specs.Directory.{directorySize};
 ghost use Rattle.emit.specs.Written.{Written};
 ghost use Rattle.encode.specs.Segments.{Placed};
 ghost use Rattle.assemble.specs.Emission.{payloadBy, entryBy, Small, Piece, Emittable, Emitted, Writable, Laid};
@@ -117,6 +118,14 @@ fn entry(s: cost::Stats, tag: u8, ordinal: usize, offset: usize, size: usize) ->
     }
 }
 
+// The bytes of a directory of n entries: entry n stands behind them, or the first payload.
+fn directory_size(n: usize) -> usize
+    requires { ⌜ n ≤ 65535 ⌝ }
+    ensures { λ r. ⌜ r ≡ directorySize n ⌝ }
+{
+    4 + 16 * n
+}
+
 // Count and segments, before the entries.
 fn head(out: &mut [u8], count: u16, segments: u16) -> usize
     requires { ⌜ 4 ≤ length (now out) ⌝ }
@@ -137,11 +146,11 @@ fn place_rows(
     ordinal: usize,
 ) -> usize
     requires { ⌜ Piece s (now rows) at i ordinal (length (now out)) ⌝ }
-    ensures { λ r. ⌜ Placed (4 + 16 * i) at (entryBy s (localForm s .tag) ordinal at (length (payloadBy s (now (rows .entry))))) (payloadBy s (now (rows .entry))) (now (out .entry)) (now (out .exit)) r ⌝ }
+    ensures { λ r. ⌜ Placed (directorySize i) at (entryBy s (localForm s .tag) ordinal at (length (payloadBy s (now (rows .entry))))) (payloadBy s (now (rows .entry))) (now (out .entry)) (now (out .exit)) r ⌝ }
 {
     let f = cost::local_form(s);
     let r = encode::local_rows(out, at, rows, rows[0], f.tag, s.last - s.first + 1);
-    encode::put_entry(out, 4 + 16 * i, entry(s, f.tag, ordinal, at, r - at));
+    encode::put_entry(out, directory_size(i), entry(s, f.tag, ordinal, at, r - at));
     r
 }
 
@@ -160,7 +169,7 @@ pub fn segmented_rows(
     let mut x = 0;
     let mut i = 0;
     let mut a = 0;
-    let mut at = 4 + 16 * segments;
+    let mut at = directory_size(segments);
     while x < n {
         let s = merge::segment(w, x);
         let b = a + s.count as usize;
@@ -208,11 +217,11 @@ fn place_ordinals(
     ordinal: usize,
 ) -> usize
     requires { ⌜ Piece s (now ordinals) at i ordinal (length (now out)) ⌝ }
-    ensures { λ r. ⌜ Placed (4 + 16 * i) at (entryBy s (localForm s .tag) ordinal at (length (payloadBy s (now (ordinals .entry))))) (payloadBy s (now (ordinals .entry))) (now (out .entry)) (now (out .exit)) r ⌝ }
+    ensures { λ r. ⌜ Placed (directorySize i) at (entryBy s (localForm s .tag) ordinal at (length (payloadBy s (now (ordinals .entry))))) (payloadBy s (now (ordinals .entry))) (now (out .entry)) (now (out .exit)) r ⌝ }
 {
     let f = cost::local_form(s);
     let r = encode::local_ordinals(out, at, ordinals, ordinals[0], f.tag, s.last - s.first + 1);
-    encode::put_entry(out, 4 + 16 * i, entry(s, f.tag, ordinal, at, r - at));
+    encode::put_entry(out, directory_size(i), entry(s, f.tag, ordinal, at, r - at));
     r
 }
 
@@ -229,7 +238,7 @@ pub fn segmented_ordinals(
     let mut x = 0;
     let mut i = 0;
     let mut a = 0;
-    let mut at = 4 + 16 * segments;
+    let mut at = directory_size(segments);
     while x < n {
         let s = merge::segment(w, x);
         let b = a + s.count as usize;
