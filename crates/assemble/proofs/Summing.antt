@@ -1,23 +1,20 @@
 -- The walk over the records: what all segments cost is what was gathered, and then the rest.
 -- Assumes nothing.
-use mathlib.Core.Path.{_≡_, refl, sym, ap, _∙_}
-use mathlib.Core.Bool.{Bool, true, false}
+use mathlib.Core.Path.{_≡_, sym, ap, _∙_}
 use mathlib.Core.Logic.{⊎-elim}
 use mathlib.Core.List.{List, [], _∷_, _++_, append-assoc, append-nil}
-use Prim.Native.Nat.{ℕ, zero, suc, _+_, _-_, _*_, _^_, _<_, _≤_}
+use Prim.Native.Nat.{ℕ, _+_, _*_, _<_, _≤_}
 use native.Mathlib.Nat.{le-trans}
 use native.Mathlib.Omega.{arith}
-use lib.Dec.{leb}
 use lib.ListN.{length, length-append}
-use borrow.Author.Tests.{leb-true, leb-false, le-leb, lt-leb}
-use Rattle.model.specs.Tests.{pick}
-use Rattle.model.proofs.Tests.{either, pick-true, pick-false, order}
+use borrow.Author.Tests.{le-leb, lt-leb}
+use Rattle.model.proofs.Tests.{pick-true, pick-false, order}
 use Rattle.model.specs.Lists.{Rising, none, more}
 use Rattle.model.proofs.Rising.{rising-low, rising-high, rising-rest, rising-append}
 use Rattle.cost.specs.declared.Stats.{Stats}
 use Rattle.cost.specs.declared.Form.{Form}
 use Rattle.cost.specs.Sizes.{depthOf}
-use Rattle.cost.specs.Statistics.{statsOf, joined, spanOf, holesOf, Sound, Neighbours}
+use Rattle.cost.specs.Statistics.{statsOf, spanOf, holesOf, Sound}
 use Rattle.cost.specs.Forms.{localForm, itemsForm, bitmapForm, denseForm}
 use Rattle.cost.proofs.Joining.{stats-append, stats-sound, stats-neighbours}
 use Rattle.cost.proofs.Depths.{depth-least}
@@ -28,7 +25,6 @@ use Rattle.planning.specs.Segments.{statsEach}
 use Rattle.planning.specs.Bodies.{payloads, larger, deepest, widest, segmentedForm}
 use Rattle.planning.specs.Held.{Held}
 use Rattle.assemble.specs.declared.Tally.{Tally}
-use Rattle.assemble.specs.declared.Summary.{Summary}
 use Rattle.assemble.specs.Sums.{one, also, finished, Bounded, Adds, Known, Summed}
 use Rattle.assemble.proofs.Records.{length-each, same-each, same-rows, Ahead, ahead, behind, within}
 
