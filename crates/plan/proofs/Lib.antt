@@ -1,4 +1,3 @@
 pub mod Choice
-pub mod Writing
 pub mod Answers
 pub mod Ready

@@ -9,12 +9,13 @@ use Rattle.cost.specs.declared.Form.{Form}
 use Rattle.cost.specs.Rows.{positionsOf}
 use Rattle.cost.specs.Statistics.{statsOf}
 use Rattle.cost.proofs.Positions.{length-positions}
+use Rattle.model.proofs.Rising.{rising-wider}
 use Rattle.model.specs.Answers.{accepted, over}
 use Rattle.model.proofs.Sets.{sets-front}
 use Rattle.emit.specs.Written.{Written}
 use Rattle.merge.specs.Tables.{records, statAt}
 use Rattle.planning.specs.Segments.{between, segmentsOf}
-use Rattle.planning.specs.Bodies.{formFor, bodyOf}
+use Rattle.planning.specs.Bodies.{formFor, layoutBy, bodyOf}
 use Rattle.planning.specs.Refusals.{endsOf}
 use Rattle.planning.specs.Planning.{plannedSegments, plannedOffers, plannedForm, plannedBody, lateNumber, plannedValues}
 use Rattle.planning.proofs.Dividing.{Divided}
@@ -22,8 +23,9 @@ use Rattle.planning.proofs.Narrow.{Parts, nothing, front, divided-narrow, plan-
 use Rattle.planning.proofs.Holding.{stat-records, narrow-seeds, narrow-offers, merged-held, held-slice}
 use Rattle.planning.proofs.Linked.{plan-good}
 use Rattle.planning.proofs.Sound.{body-length, late-zero}
+use Rattle.assemble.specs.Emission.{Writable, Laid}
 use Rattle.plan.specs.declared.Decision.{Decision}
-use Rattle.plan.specs.Merging.{Mergeable, Decided, Writable}
+use Rattle.plan.specs.Merging.{Mergeable, Decided}
 
 -- no more segments than rows
 parts-few : {xs : List ℕ} {segs : List (List ℕ)} → Parts xs segs → length segs ≤ length xs
@@ -55,16 +57,31 @@ module _ {start end words : ℕ} {rows ends : List ℕ} (d : Divided start end r
       → Mergeable (positionsOf start rows) ends span n w
   mergeable {w = w} s e room stats = rw (s, e) (whole-mergeable {w = w} room (λ i h. stats i (rw e h)))
 
-  pub writable : {span n : ℕ} {w : List ℕ} {c : Decision} (limit : ℕ) {room : ℕ} → span ≡ end - start → Decided (positionsOf start rows) ends span n w c → lateNumber (c .form .bytes) limit room ≡ 0
-      → Writable (positionsOf start rows) ends span n w c room
-  writable {span} {c = c} limit {room} s k z =
+  -- the body that is chosen has room, where tests 6 and 7 are met
+  pub roomy : {span n : ℕ} {w : List ℕ} {c : Decision} (limit room : ℕ) → span ≡ end - start → Decided (positionsOf start rows) ends span n w c → lateNumber (c .form .bytes) limit room ≡ 0
+      → (length (layoutBy (c .form) span (positionsOf start rows) (segmentsOf (positionsOf start rows) ends)) ≤ room) × (length (layoutBy (c .form) span (positionsOf start rows) (segmentsOf (positionsOf start rows) ends)) ≤ 65535)
+  unfolding bodyOf
+  roomy {span} {c = c} limit room s k z =
+      let segs = segmentsOf (positionsOf start rows) ends in
       let late = late-zero _ limit room z in
-      let size : length (bodyOf span (positionsOf start rows) (segmentsOf (positionsOf start rows) ends)) ≡ formFor span (positionsOf start rows) (segmentsOf (positionsOf start rows) ends) .bytes = rw s (body-length (d .positions) some (plan-good d)) in
-      let same : c .form .bytes ≡ formFor span (positionsOf start rows) (segmentsOf (positionsOf start rows) ends) .bytes = ap (λ (f : Form). f .bytes) (k .form) in
-      record { decided = k; short = omega (arith, size, late .1, same); fits = omega (arith, size, late .2, same) }
+      let size : length (bodyOf span (positionsOf start rows) segs) ≡ formFor span (positionsOf start rows) segs .bytes = rw s (body-length (d .positions) some (plan-good d)) in
+      let same : length (layoutBy (c .form) span (positionsOf start rows) segs) ≡ c .form .bytes = rw (k .form) size in
+      (omega (arith, same, late .2), omega (arith, same, late .1))
 
-  pub segments-few : {span n : ℕ} {w : List ℕ} {c : Decision} → Decided (positionsOf start rows) ends span n w c → c .segments ≤ 65535
-  segments-few k = omega (arith, k .segments, parts-few (plan-parts (positionsOf start rows) ends (divided-narrow d)), length-positions start rows, d .few)
+  pub writable : {span n : ℕ} {w : List ℕ} {c : Decision} (limit room : ℕ) → span ≡ end - start → n < 65536 → n * 8 + 8 ≤ length w → Decided (positionsOf start rows) ends span n w c
+      → lateNumber (c .form .bytes) limit room ≡ 0 → Writable n w start rows span (c .form) (c .sum) room
+  writable limit room s most words k z =
+      let v = roomy limit room s k z in
+      record {
+        kept = record { seeds = most; words = words; covered = d .covered; few = d .few; segs = segmentsOf (positionsOf start rows) ends; held = k .held };
+        rising = rising-wider (omega arith) (omega (arith, s, d .ordered)) (d .rising);
+        summed = k .sum;
+        fits = v .0;
+        short = v .1;
+      }
+
+  pub segments-few : {span n : ℕ} {w : List ℕ} {c : Decision} → Decided (positionsOf start rows) ends span n w c → c .sum .segments ≤ 65535
+  segments-few k = omega (arith, k .sum .segments _ _ (k .held), parts-few (plan-parts (positionsOf start rows) ends (divided-narrow d)), length-positions start rows, d .few)
 
 -- what was decided is the plan's
 module _ (start end : ℕ) (rows seeds : List ℕ) {span n : ℕ} {w : List ℕ} {c : Decision} (s : span ≡ end - start) (k : Decided (positionsOf start rows) (endsOf rows seeds) span n w c) where
@@ -75,14 +92,14 @@ module _ (start end : ℕ) (rows seeds : List ℕ) {span n : ℕ} {w : List ℕ}
   pub decided-late : (j limit room : ℕ) → j ≡ lateNumber (c .form .bytes) limit room → j ≡ lateNumber (plannedForm start end rows seeds .bytes) limit room
   decided-late j limit room e = e ∙ rw decided-form
 
-  pub decided-values : accepted (plannedValues (c .form) (c .segments) (c .offers)) ≡ accepted (plannedValues (plannedForm start end rows seeds) (length (plannedSegments start rows seeds)) (plannedOffers start rows seeds))
+  pub decided-values : accepted (plannedValues (c .form) (c .sum .segments) (c .offers)) ≡ accepted (plannedValues (plannedForm start end rows seeds) (length (plannedSegments start rows seeds)) (plannedOffers start rows seeds))
   unfolding plannedSegments plannedOffers
-  decided-values = rw (decided-form, k .segments, k .offers)
+  decided-values = rw (decided-form, k .sum .segments _ _ (k .held), k .offers)
 
-  pub decided-body : {out after : List ℕ} {r : ℕ} → Writable (positionsOf start rows) (endsOf rows seeds) span n w c (length out)
-      → Written (bodyOf span (positionsOf start rows) (segmentsOf (positionsOf start rows) (endsOf rows seeds))) 0 out after r
-      → after ≡ over (plannedBody start end rows seeds) out
-  unfolding plannedBody plannedSegments
-  decided-body {out} {after} v w =
-      let whole : after ≡ over (bodyOf span (positionsOf start rows) (segmentsOf (positionsOf start rows) (endsOf rows seeds))) out = w .stands ∙ sets-front _ out (v .fits) in
-      rw s at whole
+  pub decided-body : {out after : List ℕ} {r : ℕ} → length (layoutBy (c .form) span (positionsOf start rows) (segmentsOf (positionsOf start rows) (endsOf rows seeds))) ≤ length out
+      → Laid n w start rows span (c .form) out after r → after ≡ over (plannedBody start end rows seeds) out
+  unfolding plannedBody plannedSegments bodyOf
+  decided-body {out} {after} h l =
+      let segs = segmentsOf (positionsOf start rows) (endsOf rows seeds) in
+      let whole : after ≡ over (layoutBy (c .form) span (positionsOf start rows) segs) out = l .written segs (k .held) .stands ∙ sets-front _ out h in
+      rw (k .form, s) at whole

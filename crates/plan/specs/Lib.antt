@@ -1,4 +1,2 @@
 pub mod Plans
 pub mod Merging
-pub mod Placed
-pub mod Emission

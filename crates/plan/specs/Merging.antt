@@ -4,13 +4,14 @@ use mathlib.Core.Path.{_≡_}
 use mathlib.Core.List.{List}
 use Prim.Native.Nat.{ℕ, _*_, _-_, _<_, _≤_}
 use lib.ListN.{length}
-use Rattle.model.specs.Lists.{Rising, runsOf}
+use Rattle.model.specs.Lists.{Rising}
 use Rattle.merge.specs.Tables.{records, statAt}
 use Rattle.merge.specs.Pairs.{Seeds}
 use Rattle.merge.specs.Contracts.{Merged, offersOf}
 use Rattle.planning.specs.Segments.{segmentsOf, offersFor}
-use Rattle.planning.specs.Bodies.{formFor, bodyOf}
+use Rattle.planning.specs.Bodies.{formFor}
 use Rattle.planning.specs.Held.{Held}
+use Rattle.assemble.specs.Sums.{Summed}
 use Rattle.plan.specs.declared.Decision.{Decision}
 
 -- the n seeds of the rows xs stand in the workspace w, and merging them leaves the segments of the plain rule
@@ -28,14 +29,7 @@ pub record Mergeable (xs ends : List ℕ) (span n : ℕ) (w : List ℕ) : Type 0
 -- the segments stand in the workspace, and the form is chosen
 pub record Decided (xs ends : List ℕ) (span n : ℕ) (w : List ℕ) (d : Decision) : Type 0 where
   pub held : Held n w 0 xs (segmentsOf xs ends)
-  pub segments : d .segments ≡ length (segmentsOf xs ends)
+  pub sum : Summed n w (d .sum)
   pub form : d .form ≡ formFor span xs (segmentsOf xs ends)
   pub offers : d .offers ≡ offersFor xs ends
   pub most : d .offers ≤ 3 * (n - 1)
-  pub runs : d .runs ≡ length (runsOf xs)
-
--- and its body has room
-pub record Writable (xs ends : List ℕ) (span n : ℕ) (w : List ℕ) (d : Decision) (room : ℕ) : Type 0 where
-  pub decided : Decided xs ends span n w d
-  pub short : length (bodyOf span xs (segmentsOf xs ends)) ≤ 65535
-  pub fits : length (bodyOf span xs (segmentsOf xs ends)) ≤ room

@@ -1,25 +1,15 @@
 // Planning: rows to the shortest body. The seeds are merged in the lent workspace, the cheapest form is chosen, and its body written.
 ghost use mathlib.Core.Path.{_≡_};
 ghost use mathlib.Core.List.{List, []};
-ghost use Prim.Native.Nat.{ℕ, suc, _+_, _*_, _-_, _<_, _≤_};
+ghost use Prim.Native.Nat.{ℕ, _*_, _-_, _<_, _≤_};
 ghost use lib.ListN.{length};
-ghost use Rattle.model.specs.Lists.{Rising};
-ghost use mathlib.Core.Bool.{true};
-ghost use Rattle.cost.specs.Statistics.{statsOf};
 ghost use Rattle.cost.specs.Forms.{lex};
-ghost use Rattle.cost.specs.Rows.{positionsOf, Covered};
 ghost use Rattle.model.specs.Answers.{accepted};
-ghost use Rattle.emit.specs.Written.{Written};
-ghost use Rattle.planning.specs.Refusals.{endsOf, givenFit, earlyNumber};
-ghost use Rattle.planning.specs.Segments.{between, segmentsOf, statsEach};
-ghost use Rattle.planning.specs.Bodies.{segmentedForm, segmentedLayout, choiceKey, chosen, bodyOf};
+ghost use Rattle.planning.specs.Refusals.{endsOf, earlyNumber};
+ghost use Rattle.planning.specs.Bodies.{choiceKey, chosen};
 ghost use Rattle.planning.specs.Planning.{lateNumber, plannedValues, planOf, planOut, planWork};
-ghost use Rattle.planning.specs.Held.{Held};
-ghost use Rattle.merge.specs.Tables.{statAt};
-ghost use Rattle.plan.specs.Placed.{Seeded, Placed};
-ghost use Rattle.plan.specs.Emission.{Emittable, Emitted};
 ghost use Rattle.plan.specs.Plans.{plannedOf};
-ghost use Rattle.plan.specs.Merging.{Mergeable, Decided, Writable};
+ghost use Rattle.plan.specs.Merging.{Mergeable, Decided};
 
 // An accepted plan: its tag, the length of its body, the segments after merging, and the offers taken.
 pub struct Body {
@@ -34,33 +24,11 @@ pub enum Planned {
     Refused(u8),
 }
 
-// The form that is chosen, and what emission needs beside it.
+// The form that is chosen, what the segments come to, and the offers that merging took.
 pub struct Decision {
     pub form: cost::Form,
-    pub segments: usize,
+    pub sum: assemble::Summary,
     pub offers: usize,
-    pub runs: u32,
-}
-
-// ---- stand-ins
-
-fn put_rows(w: &mut [u32], rows: &[u64], seeds: &[u16], start: u64, n: usize)
-    requires { ⌜ Seeded start (now rows) (now seeds) n (now w) ⌝ }
-    ensures { λ _. ⌜ Placed start (now (rows .entry)) (now (seeds .entry)) n (now (w .entry)) (now (w .exit)) ⌝ }
-{}
-
-fn segmented_rows(
-    out: &mut [u8],
-    rows: &[u64],
-    start: u64,
-    w: &[u32],
-    n: usize,
-    segments: usize,
-) -> usize
-    requires { ⌜ Emittable n (now w) start (now rows) segments (length (now out)) ⌝ }
-    ensures { λ r. ⌜ Emitted n (now (w .entry)) start (now (rows .entry)) (now (out .entry)) (now (out .exit)) r ⌝ }
-{
-    0
 }
 
 // ---- choosing
@@ -103,13 +71,12 @@ fn decide(w: &mut [u32], n: usize, span: u32) -> Decision
     ensures { λ d. ⌜ ((xs ends : List ℕ) → Mergeable xs ends span n (now (w .entry)) → Decided xs ends span n (now (w .exit)) d) ⌝ }
 {
     let offers = merge::join_seeds(w, n);
-    let s = assemble::summarize(w, n);
-    let whole = cost::whole_form(s.stats, span);
+    let sum = assemble::summarize(w, n);
+    let whole = cost::whole_form(sum.stats, span);
     Decision {
-        form: choose(whole, s.form, s.segments),
-        segments: s.segments,
+        form: choose(whole, sum.form, sum.segments),
+        sum: sum,
         offers: offers,
-        runs: s.stats.runs,
     }
 }
 
@@ -126,22 +93,15 @@ fn late(bytes: u64, limit: usize, room: usize) -> u8
     if (room as u64) < bytes { 7 } else { 0 }
 }
 
-fn narrow(x: u32) -> u16
-    requires { ⌜ x ≤ 65535 ⌝ }
-    ensures { λ r. ⌜ r ≡ x ⌝ }
-{
-    x as u16
-}
-
 // What an accepted plan answers.
 fn made(d: Decision) -> Planned
-    requires { ⌜ (d .form .bytes ≤ 65535) × (d .segments ≤ 65535) × (d .offers ≤ 4294967295) ⌝ }
-    ensures { λ r. ⌜ plannedOf r ≡ accepted (plannedValues (d .form) (d .segments) (d .offers)) ⌝ }
+    requires { ⌜ (d .form .bytes ≤ 65535) × (d .sum .segments ≤ 65535) × (d .offers ≤ 4294967295) ⌝ }
+    ensures { λ r. ⌜ plannedOf r ≡ accepted (plannedValues (d .form) (d .sum .segments) (d .offers)) ⌝ }
 {
     Planned::Made(Body {
         tag: d.form.tag,
         length: d.form.bytes as u16,
-        segments: d.segments as u16,
+        segments: d.sum.segments as u16,
         offers: d.offers as u32,
     })
 }
@@ -153,29 +113,6 @@ fn span_of(start: u64, end: u64) -> u32
     ensures { λ r. ⌜ r ≡ end - start ⌝ }
 {
     (end - start) as u32
-}
-
-// Writes the body in the chosen form.
-fn body_rows(
-    out: &mut [u8],
-    rows: &[u64],
-    start: u64,
-    span: u32,
-    w: &[u32],
-    n: usize,
-    d: Decision,
-) -> usize
-    requires { ⌜ Rising start (start + span) (now rows) × (1 ≤ length (now rows)) × (length (now rows) ≤ 65535) × (n < 65536) × (n * 8 + 8 ≤ length (now w)) ⌝ }
-    requires { ⌜ ((ends : List ℕ) × Writable (positionsOf start (now rows)) ends span n (now w) d (length (now out))) ⌝ }
-    ensures { λ r. ⌜ ((ends : List ℕ) → Decided (positionsOf start (now (rows .entry))) ends span n (now (w .entry)) d → Written (bodyOf span (positionsOf start (now (rows .entry))) (segmentsOf (positionsOf start (now (rows .entry))) ends)) 0 (now (out .entry)) (now (out .exit)) r) ⌝ }
-{
-    if d.form.tag == 9 {
-        return segmented_rows(out, rows, start, w, n, d.segments);
-    }
-    if d.form.trimmed {
-        return encode::trimmed_rows(out, rows, start, d.form.tag);
-    }
-    encode::plain_rows(out, rows, start, d.form.tag, span, narrow(d.runs))
 }
 
 // Plans in a workspace of 24 words for each of n seeds, and leaves what merging made of it.
@@ -194,13 +131,13 @@ fn planned_rows(
     ensures { λ _. ⌜ now (out .exit) ≡ planOut start end (now (rows .entry)) (now (seeds .entry)) limit (length (now (w .entry))) (now (out .entry)) ⌝ }
 {
     let span = span_of(start, end);
-    put_rows(w, rows, seeds, start, n);
+    seeds::put_rows(w, rows, seeds, start, n);
     let d = decide(w, n, span);
     let k = late(d.form.bytes, limit, out.len());
     if k != 0 {
         return Planned::Refused(k);
     }
-    body_rows(out, rows, start, span, w, n, d);
+    assemble::body_rows(out, rows, start, span, d.form, d.sum, w, n);
     made(d)
 }
 
@@ -233,6 +170,60 @@ pub fn plan_rows(
     let n = early.seeds;
     let words = words_for(n);
     let r = planned_rows(start, end, rows, seeds, n, limit, &mut work[0..words], out);
+    merge::clear(work, n);
+    r
+}
+
+// ---- u16 ordinals, which are their own positions and have no seeds but windows
+
+fn wide(count: u16) -> u32
+    ensures { λ r. ⌜ r ≡ count - 0 ⌝ }
+{
+    count as u32
+}
+
+fn planned_ordinals(
+    row_count: u16,
+    ordinals: &[u16],
+    n: usize,
+    limit: usize,
+    w: &mut [u32],
+    out: &mut [u8],
+) -> Planned
+    requires { ⌜ (earlyNumber 0 row_count (now ordinals) [] (length (now w)) ≡ 0) × (n ≡ length (endsOf (now ordinals) [])) ⌝ }
+    ensures { λ r. ⌜ plannedOf r ≡ planOf 0 row_count (now (ordinals .entry)) [] limit (length (now (w .entry))) (length (now (out .entry))) ⌝ }
+    ensures { λ _. ⌜ now (out .exit) ≡ planOut 0 row_count (now (ordinals .entry)) [] limit (length (now (w .entry))) (now (out .entry)) ⌝ }
+{
+    let span = wide(row_count);
+    seeds::put_ordinals(w, ordinals, n);
+    let d = decide(w, n, span);
+    let k = late(d.form.bytes, limit, out.len());
+    if k != 0 {
+        return Planned::Refused(k);
+    }
+    assemble::body_ordinals(out, ordinals, span, d.form, d.sum, w, n);
+    made(d)
+}
+
+// Ordinals below a row count to the shortest body.
+pub fn plan_ordinals(
+    row_count: u16,
+    ordinals: &[u16],
+    limit: usize,
+    work: &mut [u32],
+    out: &mut [u8],
+) -> Planned
+    ensures { λ r. ⌜ plannedOf r ≡ planOf 0 row_count (now (ordinals .entry)) [] limit (length (now (work .entry))) (length (now (out .entry))) ⌝ }
+    ensures { λ _. ⌜ now (out .exit) ≡ planOut 0 row_count (now (ordinals .entry)) [] limit (length (now (work .entry))) (now (out .entry)) ⌝ }
+    ensures { λ _. ⌜ now (work .exit) ≡ planWork 0 row_count (now (ordinals .entry)) [] (now (work .entry)) ⌝ }
+{
+    let early = seeds::ordinals_early(row_count, ordinals, work.len());
+    if early.number != 0 {
+        return Planned::Refused(early.number);
+    }
+    let n = early.seeds;
+    let words = words_for(n);
+    let r = planned_ordinals(row_count, ordinals, n, limit, &mut work[0..words], out);
     merge::clear(work, n);
     r
 }

@@ -1,11 +1,9 @@
 -- `plan::decide` meets its contract: what merging leaves is what the seeds promise, and the summary is of those segments.
 -- Assumes nothing.
-use mathlib.Core.Path.{ap, _∙_}
+use mathlib.Core.Path.{_∙_}
 use native.Mathlib.Omega.{arith}
 use borrow.Author.Needs.{needs}
 use Rattle.model.proofs.Rising.{rising-wider}
-use Rattle.cost.specs.declared.Stats.{Stats}
-use Rattle.cost.specs.Statistics.{statsOf}
 use Rattle.planning.specs.Bodies.{formFor}
 use Rattle.planning.specs.Segments.{segmentsOf}
 use Rattle.planning.proofs.Narrow.{parts-some}
@@ -15,7 +13,7 @@ use Rattle.plan.proofs.decide.Statement.{statement}
 use Rattle.plan.proofs.decide.Tie as tie
 
 pub decide-spec : {M : Type 1} → statement M
-unfolding formFor statsOf
+unfolding formFor
 decide-spec =
     tie.close
     (tie.spec
@@ -51,9 +49,8 @@ decide-spec =
     let s = c .before .before .summarize .ensures in
     record {
       held = h;
-      segments = s .segments xs (segmentsOf xs ends) h;
+      sum = s;
       form = c .choose .ensures ∙ rw (c .before .whole-form .ensures, s .segments xs (segmentsOf xs ends) h, s .form xs (segmentsOf xs ends) h, s .stats xs (segmentsOf xs ends) h);
       offers = j .join-seeds .ensures .0 ∙ m .offers;
       most = j .join-seeds .ensures .1 .0;
-      runs = ap (λ (x : Stats). x .runs) (s .stats xs (segmentsOf xs ends) h);
     }))

@@ -86,7 +86,10 @@ plan-rows-spec =
     let work = now (s .args .work) in
     let zeros : List ℕ = replicate (judged (w .before) .rows-early .result .seeds * 24) 0 in
     let size : length zeros ≡ v = length-replicate _ 0 ∙ sym (w .words-for .ensures) in
-    let rest : postOf 0 (v - 0) work ≡ drop v work = post-is 0 v work (omega arith) in
-    (p .planned-rows .ensures .0 ∙ cut-answer _ _ _ _ _ ok _ (within w) _ (now (s .args .out)),
-    (p .planned-rows .ensures .1 ∙ cut-out _ _ _ _ _ ok _ (within w) _ (now (s .args .out)),
-    k .clear .ensures ∙ ap (λ (l : List ℕ). over zeros (back p ++ l)) rest ∙ over-back zeros (back p) work v size (back-length p) ∙ ap (λ (n : ℕ). over (replicate (n * 24) 0) work) (counted (w .before)) ∙ cleared _ _ _ _ (s .args .limit) _ work refl ok))))
+    let rest : postOf 0 (v - 0) work ≡ drop v work = post-is 0 v work (omega arith) in (
+      p .planned-rows .ensures .0 ∙ cut-answer _ _ _ _ _ ok _ (within w) _ (now (s .args .out)),
+      (
+        p .planned-rows .ensures .1 ∙ cut-out _ _ _ _ _ ok _ (within w) _ (now (s .args .out)),
+        k .clear .ensures ∙ ap (λ (l : List ℕ). over zeros (back p ++ l)) rest ∙ over-back zeros (back p) work v size (back-length p) ∙ ap (λ (n : ℕ). over (replicate (n * 24) 0) work) (counted (w .before)) ∙ cleared _ _ _ _ (s .args .limit) _ work refl ok,
+      ),
+    )))

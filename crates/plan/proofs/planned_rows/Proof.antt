@@ -7,14 +7,14 @@ use mathlib.Core.List.{List}
 use Prim.Native.Nat.{ℕ, _-_}
 use lib.ListN.{length}
 use denote.Ref.{now}
-use Rattle.model.proofs.Rising.{rising-wider}
 use Rattle.cost.specs.Rows.{positionsOf}
 use Rattle.planning.specs.Refusals.{endsOf}
+use Rattle.planning.specs.Planning.{lateNumber}
 use Rattle.planning.proofs.Sound.{late-zero}
 use Rattle.planning.proofs.Dividing.{early-divided, early-given}
 use Rattle.plan.specs.Plans.{plannedOf}
-use Rattle.plan.specs.Merging.{Mergeable, Decided, Writable}
-use Rattle.plan.proofs.Ready.{mergeable, writable, segments-few, decided-late, decided-values, decided-body}
+use Rattle.plan.specs.Merging.{Mergeable, Decided}
+use Rattle.plan.proofs.Ready.{mergeable, roomy, writable, segments-few, decided-late, decided-values, decided-body}
 use Rattle.plan.proofs.Answers.{late-answer, late-out, made-answer, made-out}
 use Rattle.plan.proofs.planned_rows.Statement.{statement}
 use Rattle.plan.proofs.planned_rows.Tie as tie
@@ -49,12 +49,9 @@ seeded c =
 chosen : (d : tie.After-decide) → Decided (xs (d .before)) (ends (d .before)) (spanned (d .before)) (entry (d .before) .args .n) (d .decide .last .0) (d .decide .result)
 chosen d = d .decide .ensures _ _ (seeded (d .before))
 
--- where no refusal is left, the body has room
-roomy : (e : tie.Else1)
-    → Writable (xs (decision e .before)) (ends (decision e .before)) (spanned (decision e .before)) (entry (decision e .before) .args .n) (decision e .decide .last .0) (decision e .decide .result) (length (now (entry (decision e .before) .args .out)))
-roomy e =
-    let d = decision e in
-    writable (early-divided _ _ _ _ _ (entry (d .before) .pre .0)) _ (spanned-is (d .before)) (chosen d) (sym (e .before .late .ensures) ∙ e .if1 .left)
+-- no refusal is left
+met : (e : tie.Else1) → lateNumber (decision e .decide .result .form .bytes) (entry (decision e .before) .args .limit) (length (now (entry (decision e .before) .args .out))) ≡ 0
+met e = sym (e .before .late .ensures) ∙ e .if1 .left
 
 pub planned-rows-spec : {M : Type 1} → statement M
 unfolding plannedOf
@@ -79,16 +76,13 @@ planned-rows-spec =
     (λ c κs.
     let e = c .before .before in
     let d = decision e in
-    let s = entry (d .before) in
-    let v = early-divided _ _ _ _ _ (s .pre .0) in
-    let w = spanned-is (d .before) in
     let m = seeded (d .before) in
-    ((rising-wider (omega arith) (omega (arith, w, v .ordered)) (v .rising), v .some, v .few, m .most, omega (arith, m .room, m .some, d .decide .kept .0)), (ends (d .before), roomy e)))
+    writable (early-divided _ _ _ _ _ (entry (d .before) .pre .0)) _ _ (spanned-is (d .before)) (m .most) (omega (arith, m .room, m .some, d .decide .kept .0)) (chosen d) (met e))
     (λ c κs.
     let e = c .before .before .before .before .before in
     let d = decision e in
     let v = early-divided _ _ _ _ _ (entry (d .before) .pre .0) in
-    let late = late-zero _ _ _ (sym (e .before .late .ensures) ∙ e .if1 .left) in
+    let late = late-zero _ _ _ (met e) in
     (late .1, segments-few v (chosen d), omega (arith, chosen d .most, seeded (d .before) .most)))
     (λ c. search needs)
     (λ c. search needs)
@@ -97,6 +91,7 @@ planned-rows-spec =
     let e = b .before .before .before in
     let d = decision e in
     let s = entry (d .before) in
-    let q = decided-late _ _ _ _ (spanned-is (d .before)) (chosen d) _ _ _ (e .before .late .ensures) in
-    (c .made .ensures ∙ decided-values _ _ _ _ (spanned-is (d .before)) (chosen d) ∙ made-answer _ _ _ _ _ _ (s .pre .0) (now (s .args .out)) _ q (e .if1 .left),
-    decided-body _ _ _ _ (spanned-is (d .before)) (chosen d) (roomy e) (b .body-rows .ensures _ (chosen d)) ∙ made-out _ _ _ _ _ _ (s .pre .0) (now (s .args .out)) _ q (e .if1 .left))))
+    let q = decided-late _ _ _ _ (spanned-is (d .before)) (chosen d) _ _ _ (e .before .late .ensures) in (
+      c .made .ensures ∙ decided-values _ _ _ _ (spanned-is (d .before)) (chosen d) ∙ made-answer _ _ _ _ _ _ (s .pre .0) (now (s .args .out)) _ q (e .if1 .left),
+      decided-body _ _ _ _ (spanned-is (d .before)) (chosen d) (roomy (early-divided _ _ _ _ _ (s .pre .0)) _ _ (spanned-is (d .before)) (chosen d) (met e) .0) (b .body-rows .ensures) ∙ made-out _ _ _ _ _ _ (s .pre .0) (now (s .args .out)) _ q (e .if1 .left),
+    )))
