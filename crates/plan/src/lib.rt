@@ -176,25 +176,25 @@ pub fn plan_rows(
 
 // ---- u16 ordinals, which are their own positions and have no seeds but windows
 
-fn wide(count: u16) -> u32
-    ensures { λ r. ⌜ r ≡ count - 0 ⌝ }
+fn wide(x: u16) -> u32
+    ensures { λ r. ⌜ r ≡ x - 0 ⌝ }
 {
-    count as u32
+    x as u32
 }
 
 fn planned_ordinals(
-    row_count: u16,
+    count: u16,
     ordinals: &[u16],
     n: usize,
     limit: usize,
     w: &mut [u32],
     out: &mut [u8],
 ) -> Planned
-    requires { ⌜ (earlyNumber 0 row_count (now ordinals) [] (length (now w)) ≡ 0) × (n ≡ length (endsOf (now ordinals) [])) ⌝ }
-    ensures { λ r. ⌜ plannedOf r ≡ planOf 0 row_count (now (ordinals .entry)) [] limit (length (now (w .entry))) (length (now (out .entry))) ⌝ }
-    ensures { λ _. ⌜ now (out .exit) ≡ planOut 0 row_count (now (ordinals .entry)) [] limit (length (now (w .entry))) (now (out .entry)) ⌝ }
+    requires { ⌜ (earlyNumber 0 count (now ordinals) [] (length (now w)) ≡ 0) × (n ≡ length (endsOf (now ordinals) [])) ⌝ }
+    ensures { λ r. ⌜ plannedOf r ≡ planOf 0 count (now (ordinals .entry)) [] limit (length (now (w .entry))) (length (now (out .entry))) ⌝ }
+    ensures { λ _. ⌜ now (out .exit) ≡ planOut 0 count (now (ordinals .entry)) [] limit (length (now (w .entry))) (now (out .entry)) ⌝ }
 {
-    let span = wide(row_count);
+    let span = wide(count);
     seeds::put_ordinals(w, ordinals, n);
     let d = decide(w, n, span);
     let k = late(d.form.bytes, limit, out.len());
@@ -207,23 +207,23 @@ fn planned_ordinals(
 
 // Ordinals below a row count to the shortest body.
 pub fn plan_ordinals(
-    row_count: u16,
+    count: u16,
     ordinals: &[u16],
     limit: usize,
     work: &mut [u32],
     out: &mut [u8],
 ) -> Planned
-    ensures { λ r. ⌜ plannedOf r ≡ planOf 0 row_count (now (ordinals .entry)) [] limit (length (now (work .entry))) (length (now (out .entry))) ⌝ }
-    ensures { λ _. ⌜ now (out .exit) ≡ planOut 0 row_count (now (ordinals .entry)) [] limit (length (now (work .entry))) (now (out .entry)) ⌝ }
-    ensures { λ _. ⌜ now (work .exit) ≡ planWork 0 row_count (now (ordinals .entry)) [] (now (work .entry)) ⌝ }
+    ensures { λ r. ⌜ plannedOf r ≡ planOf 0 count (now (ordinals .entry)) [] limit (length (now (work .entry))) (length (now (out .entry))) ⌝ }
+    ensures { λ _. ⌜ now (out .exit) ≡ planOut 0 count (now (ordinals .entry)) [] limit (length (now (work .entry))) (now (out .entry)) ⌝ }
+    ensures { λ _. ⌜ now (work .exit) ≡ planWork 0 count (now (ordinals .entry)) [] (now (work .entry)) ⌝ }
 {
-    let early = seeds::ordinals_early(row_count, ordinals, work.len());
+    let early = seeds::ordinals_early(count, ordinals, work.len());
     if early.number != 0 {
         return Planned::Refused(early.number);
     }
     let n = early.seeds;
     let words = words_for(n);
-    let r = planned_ordinals(row_count, ordinals, n, limit, &mut work[0..words], out);
+    let r = planned_ordinals(count, ordinals, n, limit, &mut work[0..words], out);
     merge::clear(work, n);
     r
 }
