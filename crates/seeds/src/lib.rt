@@ -4,9 +4,9 @@ mod records;
 ghost use mathlib.Core.Path.{_≡_};
 ghost use mathlib.Core.Bool.{true};
 ghost use mathlib.Core.List.{[]};
-ghost use Prim.Native.Nat.{_-_, _*_, _<_, _≤_};
-ghost use lib.Dec.{leb, ltb};
-ghost use lib.ListN.{length, getD};
+ghost use Prim.Native.Nat.{_*_, _<_, _≤_};
+ghost use lib.Dec.{leb};
+ghost use lib.ListN.{length};
 ghost use Rattle.model.specs.Tests.{pick, both, all};
 ghost use Rattle.gather.specs.Gather.{rises};
 ghost use Rattle.gather.specs.Seeds.{seedsFit, windows};
@@ -196,20 +196,12 @@ fn count_seeds(rows: &[u64], seeds: &[u16]) -> usize
     seeds.len()
 }
 
-// Test 5.
-fn room_fits(seeds: usize, words: usize) -> bool
-    requires { ⌜ seeds ≤ 65535 ⌝ }
-    ensures { λ r. ⌜ r ≡ leb (seeds * 24) words ⌝ }
-{
-    seeds * 24 <= words
-}
-
 // Test 5 as the answer: the tests before it are met.
 fn last_test(seeds: usize, words: usize) -> Early
     requires { ⌜ seeds ≤ 65535 ⌝ }
     ensures { λ r. ⌜ (r .number ≡ pick (leb (seeds * 24) words) 0 5) × (r .seeds ≡ seeds) ⌝ }
 {
-    let number = if room_fits(seeds, words) { 0 } else { 5 };
+    let number = if seeds * 24 <= words { 0 } else { 5 };
     Early {
         number: number,
         seeds: seeds,
