@@ -45,7 +45,7 @@ pub enum Entry {
 
 // ---- what every call stands on
 
-fn is_accepted(tag: u8, span: u32, body: &[u8]) -> bool
+pub fn is_accepted(tag: u8, span: u32, body: &[u8]) -> bool
     ensures { λ r. ⌜ r ≡ accepts tag span (now (body .entry)) ⌝ }
 {
     if tag == 9 {
@@ -54,7 +54,7 @@ fn is_accepted(tag: u8, span: u32, body: &[u8]) -> bool
     single::check(tag, span, body)
 }
 
-fn count(tag: u8, span: u32, body: &[u8]) -> u16
+pub fn count(tag: u8, span: u32, body: &[u8]) -> u16
     requires { ⌜ accepts tag span (now body) ≡ true ⌝ }
     ensures { λ r. ⌜ r ≡ length (names tag span (now (body .entry))) ⌝ }
 {
@@ -64,7 +64,7 @@ fn count(tag: u8, span: u32, body: &[u8]) -> u16
     single::parse(tag, span, body).count
 }
 
-fn place(tag: u8, span: u32, body: &[u8], p: u32) -> Place
+pub fn place(tag: u8, span: u32, body: &[u8], p: u32) -> Place
     requires { ⌜ accepts tag span (now body) ≡ true ⌝ }
     ensures { λ r. ⌜ r ≡ placeOf (names tag span (now (body .entry))) p ⌝ }
 {
@@ -74,7 +74,7 @@ fn place(tag: u8, span: u32, body: &[u8], p: u32) -> Place
     single::place(single::parse(tag, span, body), body, p)
 }
 
-fn position(tag: u8, span: u32, body: &[u8], k: u16) -> u32
+pub fn position(tag: u8, span: u32, body: &[u8], k: u16) -> u32
     requires { ⌜ (accepts tag span (now body) ≡ true) × (k < length (names tag span (now body))) ⌝ }
     ensures { λ r. ⌜ r ≡ getD (names tag span (now (body .entry))) k 0 ⌝ }
 {

@@ -1,0 +1,243 @@
+// The deletion view: the deleted rows of a block, as ordinals in [0, row count). Row count, section and body go together and are
+// checked by each call. A deletion's rank among the deletions is not an ordinal, and no call hands one out.
+use rowset::Filled;
+ghost use mathlib.Core.Path.{_≡_};
+ghost use mathlib.Core.Bool.{true};
+ghost use Prim.Native.Nat.{ℕ, _+_, _-_, _≤_, _<_, min};
+ghost use lib.ListN.{length, getD};
+ghost use Rattle.model.specs.Tests.{pick};
+ghost use Rattle.model.specs.Lists.{has, walkOf};
+ghost use Rattle.model.specs.Answers.{over, Walked};
+ghost use Rattle.rowset.specs.Bodies.{accepts, names};
+ghost use Rattle.rowset.specs.Calls.{filledOf};
+ghost use Rattle.deletion.specs.Reading.{countedOf, containedOf, bodyLimit, rowsFit, statedFit, codedNumber, sectionNumber, deletedOf, statedOf, sound, checkAnswer, containsAnswer, walkAnswer, walkLeft};
+
+// No deletions, or a body of this tag that stands beside it, with the count that is stated of it.
+pub enum Section {
+    Empty,
+    Coded { count: u16, tag: u8 },
+}
+
+// How many rows are deleted, or the number of the refusal.
+pub enum Counted {
+    Deleted(u16),
+    Refused(u8),
+}
+
+// Whether a row is deleted, or the number of the refusal.
+pub enum Contained {
+    Yes,
+    No,
+    Refused(u8),
+}
+
+// No deletions, the plan of their body, or the number of the refusal.
+pub enum Struck {
+    Empty,
+    Body {
+        tag: u8,
+        length: u16,
+        segments: u16,
+        offers: u32,
+    },
+    Refused(u8),
+}
+
+// ---- the tests
+
+fn wide(n: u16) -> u64
+    ensures { λ r. ⌜ (r ≡ n) × (r ≤ 65535) ⌝ }
+{
+    n as u64
+}
+
+fn room(n: u16) -> usize
+    ensures { λ r. ⌜ r ≡ n ⌝ }
+{
+    n as usize
+}
+
+// The bytes of a bitmap of all rows, with its header.
+fn body_limit(rows: u16) -> usize
+    ensures { λ r. ⌜ r ≡ bodyLimit rows ⌝ }
+{
+    (4 + cost::bitmap_length(wide(rows))) as usize
+}
+
+fn rows_fit(rows: u16, limit: usize) -> bool
+    ensures { λ r. ⌜ r ≡ rowsFit rows limit ⌝ }
+{
+    if rows < 1 {
+        return false;
+    }
+    room(rows) <= limit
+}
+
+fn stated_fit(rows: u16, count: u16, size: usize) -> bool
+    ensures { λ r. ⌜ r ≡ statedFit rows count size ⌝ }
+{
+    if count < 1 {
+        return false;
+    }
+    if rows < count {
+        return false;
+    }
+    size <= body_limit(rows)
+}
+
+fn empty_number(rows: u16, limit: usize) -> u8
+    ensures { λ r. ⌜ r ≡ pick {A = ℕ} (rowsFit rows limit) 0 9 ⌝ }
+{
+    if rows_fit(rows, limit) { 0 } else { 9 }
+}
+
+// 9, then 8, then 10, or 0.
+fn coded_number(rows: u16, limit: usize, count: u16, tag: u8, body: &[u8]) -> u8
+    ensures { λ r. ⌜ r ≡ codedNumber rows limit count tag (now (body .entry)) ⌝ }
+{
+    if !rows_fit(rows, limit) {
+        return 9;
+    }
+    if !stated_fit(rows, count, body.len()) {
+        return 9;
+    }
+    if !rowset::is_accepted(tag, rows as u32, body) {
+        return 8;
+    }
+    if rowset::count(tag, rows as u32, body) != count {
+        return 10;
+    }
+    0
+}
+
+fn number(rows: u16, limit: usize, section: Section, body: &[u8]) -> u8
+    ensures { λ r. ⌜ r ≡ sectionNumber rows limit section (now (body .entry)) ⌝ }
+{
+    match section {
+        Section::Empty => empty_number(rows, limit),
+        Section::Coded { count, tag } => coded_number(rows, limit, count, tag, body),
+    }
+}
+
+// ---- the deleted ordinals of a section that no test refuses
+
+fn stated(section: Section) -> u16
+    ensures { λ r. ⌜ r ≡ statedOf section ⌝ }
+{
+    match section {
+        Section::Empty => 0,
+        Section::Coded { count, tag: _ } => count,
+    }
+}
+
+fn present(tag: u8, rows: u16, body: &[u8], ordinal: u16) -> bool
+    requires { ⌜ accepts tag rows (now body) ≡ true ⌝ }
+    ensures { λ r. ⌜ r ≡ has (names tag rows (now (body .entry))) ordinal ⌝ }
+{
+    rowset::place(tag, rows as u32, body, ordinal as u32).present
+}
+
+fn is_deleted(rows: u16, section: Section, body: &[u8], ordinal: u16) -> bool
+    requires { ⌜ sound rows section (now body) ≡ true ⌝ }
+    ensures { λ r. ⌜ r ≡ has (deletedOf rows section (now (body .entry))) ordinal ⌝ }
+{
+    match section {
+        Section::Empty => false,
+        Section::Coded { count: _, tag } => present(tag, rows, body, ordinal),
+    }
+}
+
+// The k-th deleted ordinal.
+fn ordinal_at(tag: u8, rows: u16, body: &[u8], k: usize) -> u16
+    requires { ⌜ (accepts tag rows (now body) ≡ true) × (k < length (names tag rows (now body))) ⌝ }
+    ensures { λ r. ⌜ r ≡ getD (names tag rows (now (body .entry))) k 0 ⌝ }
+{
+    rowset::position(tag, rows as u32, body, k as u16) as u16
+}
+
+// How many ordinals a walk writes: as many as fit or remain.
+fn steps(count: u16, from: u16, room: usize) -> usize
+    ensures { λ r. ⌜ r ≡ min room (count - from) ⌝ }
+{
+    if count <= from {
+        return 0;
+    }
+    let left = (count - from) as usize;
+    if room < left { room } else { left }
+}
+
+fn write_from(tag: u8, rows: u16, body: &[u8], from: usize, n: usize, out: &mut [u16])
+    requires { ⌜ (accepts tag rows (now body) ≡ true) × (n ≤ length (now out)) × (n ≤ length (names tag rows (now body)) - from) ⌝ }
+    ensures { λ _. ⌜ now (out .exit) ≡ over (walkOf (names tag rows (now (body .entry))) from n) (now (out .entry)) ⌝ }
+{
+    let mut i = 0;
+    while i < n {
+        out[i] = ordinal_at(tag, rows, body, from + i);
+        i += 1;
+    }
+}
+
+fn write_coded(tag: u8, rows: u16, count: u16, body: &[u8], from: u16, out: &mut [u16]) -> usize
+    requires { ⌜ (accepts tag rows (now body) ≡ true) × (count ≡ length (names tag rows (now body))) ⌝ }
+    ensures { λ r. ⌜ Walked (walkOf (names tag rows (now (body .entry))) from (length (now (out .entry)))) (now (out .entry)) (now (out .exit)) r ⌝ }
+{
+    let n = steps(count, from, out.len());
+    write_from(tag, rows, body, room(from), n, out);
+    n
+}
+
+fn write(rows: u16, section: Section, body: &[u8], from: u16, out: &mut [u16]) -> usize
+    requires { ⌜ sound rows section (now body) ≡ true ⌝ }
+    ensures { λ r. ⌜ Walked (walkOf (deletedOf rows section (now (body .entry))) from (length (now (out .entry)))) (now (out .entry)) (now (out .exit)) r ⌝ }
+{
+    match section {
+        Section::Empty => 0,
+        Section::Coded { count, tag } => write_coded(tag, rows, count, body, from, out),
+    }
+}
+
+// ---- the calls
+
+// How many rows are deleted.
+pub fn check_deletions(rows: u16, limit: usize, section: Section, body: &[u8]) -> Counted
+    ensures { λ r. ⌜ countedOf r ≡ checkAnswer rows limit section (now (body .entry)) ⌝ }
+{
+    let refusal = number(rows, limit, section, body);
+    if refusal != 0 {
+        return Counted::Refused(refusal);
+    }
+    Counted::Deleted(stated(section))
+}
+
+// Whether the row of this ordinal is deleted.
+pub fn contains(rows: u16, limit: usize, section: Section, body: &[u8], ordinal: u16) -> Contained
+    ensures { λ r. ⌜ containedOf r ≡ containsAnswer rows limit section (now (body .entry)) ordinal ⌝ }
+{
+    let refusal = number(rows, limit, section, body);
+    if refusal != 0 {
+        return Contained::Refused(refusal);
+    }
+    if is_deleted(rows, section, body, ordinal) {
+        return Contained::Yes;
+    }
+    Contained::No
+}
+
+// The deleted ordinals from the k-th on, as many as fit or remain.
+pub fn walk_deletions(
+    rows: u16,
+    limit: usize,
+    section: Section,
+    body: &[u8],
+    from: u16,
+    out: &mut [u16],
+) -> Filled
+    ensures { λ r. ⌜ filledOf r ≡ walkAnswer rows limit section (now (body .entry)) from (length (now (out .entry))) ⌝ }
+    ensures { λ _. ⌜ now (out .exit) ≡ walkLeft rows limit section (now (body .entry)) from (now (out .entry)) ⌝ }
+{
+    let refusal = number(rows, limit, section, body);
+    if refusal != 0 {
+        return Filled::Refused(refusal);
+    }
+    Filled::Written(write(rows, section, body, from, out))
+}
