@@ -3,19 +3,16 @@
 use mathlib.Core.Path.{_≡_, refl, sym, ap, _∙_}
 use mathlib.Core.Bool.{Bool, true, false}
 use mathlib.Core.List.{List, [], _∷_}
-use Prim.Native.Nat.{ℕ, _<_, _≤_}
+use Prim.Native.Nat.{ℕ}
 use native.Mathlib.Omega.{arith}
 use lib.Dec.{eqb}
-use lib.ListN.{length, getD}
+use lib.ListN.{length}
 use borrow.Author.Tests.{eq-eqb, ne-eqb, eqb-true}
-use Rattle.fields.specs.Le.{Bytes}
 use Rattle.model.specs.Tests.{pick, both}
 use Rattle.model.specs.Answers.{Answer, accepted, refused}
 use Rattle.model.proofs.Tests.{pick-true, pick-false, both-true, both-left, both-right}
-use Rattle.model.proofs.Rising.{rising-below}
 use Rattle.gather.proofs.Admitted.{passes}
 use Rattle.rowset.specs.Bodies.{accepts, names}
-use Rattle.rowset.proofs.Demands.{names-rising, names-most}
 use Rattle.planning.specs.Planning.{answered}
 use Rattle.deletion.specs.Reading.{codedNumber, sectionNumber, deletedOf, statedOf, sound}
 use Rattle.deletion.specs.declared.Section.{Section}
@@ -63,11 +60,3 @@ module _ (rows : ℕ) (body : List ℕ) {s : Section} {count tag : ℕ} (q : s �
   pub coded-count : count ≡ length (names tag rows body)
   unfolding statedOf deletedOf
   coded-count = rw q at (sound-count rows s body e)
-
--- a deleted ordinal has 16 bits, and so has its place in the list
-module _ (tag rows : ℕ) (body : List ℕ) (ok : accepts tag rows body ≡ true) (b : Bytes body) (k : ℕ) (h : k < length (names tag rows body)) where
-  pub ordinal-inside : getD (names tag rows body) k 0 < rows
-  ordinal-inside = rising-below (names-rising tag rows body ok b) k h
-
-  pub place-short : k < 65536
-  place-short = omega (arith, names-most tag rows body ok b)

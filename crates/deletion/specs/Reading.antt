@@ -38,8 +38,8 @@ unfoldable pub bodyLimit : ℕ → ℕ
 bodyLimit rows = 4 + bitmapLength rows
 
 -- 9: row count 0 or above the block limit
-unfoldable pub rowsFit : ℕ → ℕ → Bool
-rowsFit rows limit = both (leb 1 rows) (leb rows limit)
+unfoldable pub blockFits : ℕ → ℕ → Bool
+blockFits rows limit = both (leb 1 rows) (leb rows limit)
 
 -- 9 in reading, besides: stated count 0 or above the row count, or body longer than a bitmap of all rows
 unfoldable pub statedFit : ℕ → ℕ → ℕ → Bool
@@ -48,13 +48,13 @@ statedFit rows count size = both (leb 1 count) (both (leb count rows) (leb size 
 -- 9, then 8, then 10: the number of the first that is due, or 0
 unfoldable pub codedNumber : ℕ → ℕ → ℕ → ℕ → List ℕ → ℕ
 codedNumber rows limit count tag body =
-    pick (both (rowsFit rows limit) (statedFit rows count (length body)))
+    pick (both (blockFits rows limit) (statedFit rows count (length body)))
     (pick (accepts tag rows body) (pick {A = ℕ} (eqb (length (names tag rows body)) count) 0 10) 8)
     9
 
 -- of an empty section the row count alone is tested
 unfoldable pub sectionNumber : ℕ → ℕ → Section → List ℕ → ℕ
-sectionNumber rows limit section.Empty body = pick {A = ℕ} (rowsFit rows limit) 0 9
+sectionNumber rows limit section.Empty body = pick {A = ℕ} (blockFits rows limit) 0 9
 sectionNumber rows limit (section.Coded count tag) body = codedNumber rows limit count tag body
 
 -- ---- what a section holds

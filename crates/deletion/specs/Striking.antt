@@ -8,7 +8,7 @@ use lib.ListN.{length}
 use Rattle.model.specs.Tests.{pick, both}
 use Rattle.model.specs.Answers.{Answer, accepted, refused}
 use Rattle.planning.specs.Planning.{planOf, planOut, planWork}
-use Rattle.deletion.specs.Reading.{bodyLimit, rowsFit}
+use Rattle.deletion.specs.Reading.{bodyLimit, blockFits}
 use Rattle.deletion.specs.declared.Struck.{Struck}
 use Rattle.deletion.specs.declared.Struck.the-variants as struck
 
@@ -20,12 +20,12 @@ struckOf (struck.Refused k) = refused k
 
 -- whether there is anything to plan: test 9 is met, and there are deletions
 unfoldable pub strikes : ℕ → ℕ → List ℕ → Bool
-strikes rows limit ordinals = both (rowsFit rows limit) (leb 1 (length ordinals))
+strikes rows limit ordinals = both (blockFits rows limit) (leb 1 (length ordinals))
 
 -- 9; no deletions: Empty; then planning over [0, row count), the body at most a bitmap of all rows
 unfoldable pub strikeOf : ℕ → ℕ → List ℕ → ℕ → ℕ → Answer
 strikeOf rows limit ordinals words room =
-    pick (rowsFit rows limit)
+    pick (blockFits rows limit)
     (pick (leb 1 (length ordinals)) (planOf 0 rows ordinals [] (bodyLimit rows) words room) (accepted []))
     (refused 9)
 

@@ -4,13 +4,14 @@ use rowset::Filled;
 ghost use mathlib.Core.Path.{_≡_};
 ghost use mathlib.Core.Bool.{true};
 ghost use Prim.Native.Nat.{ℕ, _+_, _-_, _≤_, _<_, min};
-ghost use lib.ListN.{length, getD};
+ghost use lib.ListN.{length, getD, take};
+ghost use lib.Seq.{sets};
 ghost use Rattle.model.specs.Tests.{pick};
 ghost use Rattle.model.specs.Lists.{has, walkOf};
 ghost use Rattle.model.specs.Answers.{over, Walked};
 ghost use Rattle.rowset.specs.Bodies.{accepts, names};
 ghost use Rattle.rowset.specs.Calls.{filledOf};
-ghost use Rattle.deletion.specs.Reading.{countedOf, containedOf, bodyLimit, rowsFit, statedFit, codedNumber, sectionNumber, deletedOf, statedOf, sound, checkAnswer, containsAnswer, walkAnswer, walkLeft};
+ghost use Rattle.deletion.specs.Reading.{countedOf, containedOf, bodyLimit, blockFits, statedFit, codedNumber, sectionNumber, deletedOf, statedOf, sound, checkAnswer, containsAnswer, walkAnswer, walkLeft};
 
 // No deletions, or a body of this tag that stands beside it, with the count that is stated of it.
 pub enum Section {
@@ -64,8 +65,8 @@ fn body_limit(rows: u16) -> usize
     (4 + cost::bitmap_length(wide(rows))) as usize
 }
 
-fn rows_fit(rows: u16, limit: usize) -> bool
-    ensures { λ r. ⌜ r ≡ rowsFit rows limit ⌝ }
+fn block_fits(rows: u16, limit: usize) -> bool
+    ensures { λ r. ⌜ r ≡ blockFits rows limit ⌝ }
 {
     if rows < 1 {
         return false;
@@ -86,16 +87,16 @@ fn stated_fit(rows: u16, count: u16, size: usize) -> bool
 }
 
 fn empty_number(rows: u16, limit: usize) -> u8
-    ensures { λ r. ⌜ r ≡ pick {A = ℕ} (rowsFit rows limit) 0 9 ⌝ }
+    ensures { λ r. ⌜ r ≡ pick {A = ℕ} (blockFits rows limit) 0 9 ⌝ }
 {
-    if rows_fit(rows, limit) { 0 } else { 9 }
+    if block_fits(rows, limit) { 0 } else { 9 }
 }
 
 // 9, then 8, then 10, or 0.
 fn coded_number(rows: u16, limit: usize, count: u16, tag: u8, body: &[u8]) -> u8
     ensures { λ r. ⌜ r ≡ codedNumber rows limit count tag (now (body .entry)) ⌝ }
 {
-    if !rows_fit(rows, limit) {
+    if !block_fits(rows, limit) {
         return 9;
     }
     if !stated_fit(rows, count, body.len()) {
@@ -147,14 +148,6 @@ fn is_deleted(rows: u16, section: Section, body: &[u8], ordinal: u16) -> bool
     }
 }
 
-// The k-th deleted ordinal.
-fn ordinal_at(tag: u8, rows: u16, body: &[u8], k: usize) -> u16
-    requires { ⌜ (accepts tag rows (now body) ≡ true) × (k < length (names tag rows (now body))) ⌝ }
-    ensures { λ r. ⌜ r ≡ getD (names tag rows (now (body .entry))) k 0 ⌝ }
-{
-    rowset::position(tag, rows as u32, body, k as u16) as u16
-}
-
 // How many ordinals a walk writes: as many as fit or remain.
 fn steps(count: u16, from: u16, room: usize) -> usize
     ensures { λ r. ⌜ r ≡ min room (count - from) ⌝ }
@@ -166,14 +159,44 @@ fn steps(count: u16, from: u16, room: usize) -> usize
     if room < left { room } else { left }
 }
 
+// The first n positions of a page, which have 16 bits, into the output from `at` on.
+fn copy(page: &[u32], n: usize, out: &mut [u16], at: usize)
+    requires { ⌜ (n ≤ length (now page)) × (at + n ≤ length (now out)) × ((j : ℕ) → j < n → getD (now page) j 0 ≤ 65535) ⌝ }
+    ensures { λ _. ⌜ now (out .exit) ≡ sets (now (out .entry)) at (take n (now (page .entry))) ⌝ }
+{
+    let mut i = 0;
+    while i < n {
+        out[at + i] = page[i] as u16;
+        i += 1;
+    }
+}
+
+// n deleted ordinals from the k-th on into the output from `at` on: rowset writes positions of 32 bits, to a page.
+fn write_page(tag: u8, rows: u16, body: &[u8], k: usize, n: usize, out: &mut [u16], at: usize)
+    requires { ⌜ (accepts tag rows (now body) ≡ true) × (n ≤ 64) × (k + n ≤ length (names tag rows (now body))) × (at + n ≤ length (now out)) ⌝ }
+    ensures { λ _. ⌜ now (out .exit) ≡ sets (now (out .entry)) at (walkOf (names tag rows (now (body .entry))) k n) ⌝ }
+{
+    let mut page = [0u32; 64];
+    rowset::write(tag, rows as u32, body, k as u16, &mut page);
+    copy(&page, n, out, at);
+}
+
+// As many as are left, a page at most.
+fn page_of(left: usize) -> usize
+    ensures { λ r. ⌜ r ≡ min left 64 ⌝ }
+{
+    if left < 64 { left } else { 64 }
+}
+
 fn write_from(tag: u8, rows: u16, body: &[u8], from: usize, n: usize, out: &mut [u16])
     requires { ⌜ (accepts tag rows (now body) ≡ true) × (n ≤ length (now out)) × (n ≤ length (names tag rows (now body)) - from) ⌝ }
     ensures { λ _. ⌜ now (out .exit) ≡ over (walkOf (names tag rows (now (body .entry))) from n) (now (out .entry)) ⌝ }
 {
     let mut i = 0;
     while i < n {
-        out[i] = ordinal_at(tag, rows, body, from + i);
-        i += 1;
+        let m = page_of(n - i);
+        write_page(tag, rows, body, from + i, m, out, i);
+        i += m;
     }
 }
 

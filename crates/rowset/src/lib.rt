@@ -74,7 +74,7 @@ pub fn place(tag: u8, span: u32, body: &[u8], p: u32) -> Place
     single::place(single::parse(tag, span, body), body, p)
 }
 
-pub fn position(tag: u8, span: u32, body: &[u8], k: u16) -> u32
+fn position(tag: u8, span: u32, body: &[u8], k: u16) -> u32
     requires { ⌜ (accepts tag span (now body) ≡ true) × (k < length (names tag span (now body))) ⌝ }
     ensures { λ r. ⌜ r ≡ getD (names tag span (now (body .entry))) k 0 ⌝ }
 {
@@ -84,7 +84,7 @@ pub fn position(tag: u8, span: u32, body: &[u8], k: u16) -> u32
     single::select(single::parse(tag, span, body), body, k)
 }
 
-fn write(tag: u8, span: u32, body: &[u8], k: u16, out: &mut [u32]) -> usize
+pub fn write(tag: u8, span: u32, body: &[u8], k: u16, out: &mut [u32]) -> usize
     requires { ⌜ accepts tag span (now body) ≡ true ⌝ }
     ensures { λ r. ⌜ Walked (walkOf (names tag span (now (body .entry))) k (length (now (out .entry)))) (now (out .entry)) (now (out .exit)) r ⌝ }
 {

@@ -11,5 +11,5 @@ empty-number-spec =
     tie.close
     (tie.spec
     (λ c κs. search needs)
-    (λ c. sym (pick-true _ _ (sym (c .before .rows-fit .ensures) ∙ c .if1 .taken)))
-    (λ c. sym (pick-false _ _ (sym (c .before .rows-fit .ensures) ∙ c .if1 .left))))
+    (λ c. sym (pick-true _ _ (sym (c .before .block-fits .ensures) ∙ c .if1 .taken)))
+    (λ c. sym (pick-false _ _ (sym (c .before .block-fits .ensures) ∙ c .if1 .left))))

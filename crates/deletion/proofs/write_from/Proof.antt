@@ -1,7 +1,7 @@
 -- `deletion::write_from` meets its contract.
 -- Assumes nothing.
-use native.Mathlib.Omega.{arith}
 use Prim.Native.Nat.{_-_}
+use native.Mathlib.Omega.{arith}
 use Rattle.fields.specs.Le.{Bytes}
 use Rattle.rowset.specs.Bodies.{names}
 use Rattle.rowset.proofs.Demands.{names-most}
@@ -26,12 +26,14 @@ write-from-spec =
     Inv-loop
     μ-loop
     (λ c. filling-start _ _ _ _ (c .before .before .pre .1) (c .before .before .pre .2))
-    (λ c. omega (arith, c .before .loop .inv .left, names-most _ _ _ (c .before .before .before .before .pre .0) (bytes (c .before .before .before))))
-    (λ c κs. (c .before .before .before .before .pre .0, omega (arith, c .before .loop .inv .left)))
     (λ c. omega arith)
-    (λ c. omega (arith, filling-length (c .before .before .loop .inv), c .before .before .loop .inv .room))
-    (λ c. omega arith)
-    (λ c. omega arith)
-    (λ c. filling-next (c .before .before .loop .inv) (c .before .loop-test .taken) (c .ordinal-at .ensures))
+    (λ c κs. tt)
+    (λ c. omega (arith, c .before .before .loop .inv .left, names-most _ _ _ (c .before .before .before .before .before .pre .0) (bytes (c .before .before .before .before))))
+    (λ c κs.
+    let inv = c .before .before .before .loop .inv in
+    (c .before .before .before .before .before .before .pre .0, omega (arith, c .before .page-of .ensures), omega (arith, inv .left, c .before .page-of .ensures), omega (arith, inv .room, filling-length inv, c .before .page-of .ensures)))
+    (λ c. omega (arith, c .before .before .before .before .page-of .ensures))
+    (λ c. omega (arith, c .before .before .before .before .page-of .ensures))
+    (λ c. filling-next (c .before .before .before .before .before .before .loop .inv) _ (omega (arith, c .before .before .before .before .page-of .ensures)) (c .before .before .write-page .ensures))
     (λ c. filling-length (c .before .loop .inv))
     (λ c. filling-end (c .before .loop .inv) (c .loop-test .left)))

@@ -1,17 +1,17 @@
--- `deletion::rows_fit` meets its contract.
+-- `deletion::block_fits` meets its contract.
 -- Assumes nothing.
 use mathlib.Core.Path.{sym, ap, _∙_}
 use Rattle.model.proofs.Tests.{both-first}
 use borrow.Author.Tests.{lt-leb, le-leb}
 use Rattle.model.specs.Tests.{both}
-use Rattle.deletion.specs.Reading.{rowsFit}
+use Rattle.deletion.specs.Reading.{blockFits}
 use borrow.Author.Needs.{needs}
-use Rattle.deletion.proofs.rows_fit.Statement.{statement}
-use Rattle.deletion.proofs.rows_fit.Tie as tie
+use Rattle.deletion.proofs.block_fits.Statement.{statement}
+use Rattle.deletion.proofs.block_fits.Tie as tie
 
-pub rows-fit-spec : {M : Type 1} → statement M
-unfolding rowsFit both
-rows-fit-spec =
+pub block-fits-spec : {M : Type 1} → statement M
+unfolding blockFits both
+block-fits-spec =
     tie.close
     (tie.spec
     (λ c. rw (lt-leb 1 _ (c .if1 .taken)))
