@@ -179,6 +179,15 @@ pub record Divided (start end : ℕ) (rows ends : List ℕ) (words : ℕ) : Type
   pub few-seeds : length ends ≤ 65535
   pub room : length ends * 24 ≤ words
 
+-- test 4 is met
+pub early-given : (start end : ℕ) (rows seeds : List ℕ) (words : ℕ) → earlyNumber start end rows seeds words ≡ 0 → givenFit rows seeds ≡ true
+unfolding earlyNumber
+early-given start end rows seeds words e =
+    let coverage = passes (coverageFits start end) 1 _ (λ z. omega arith) e in
+    let count = passes (countFits rows) 2 _ (λ z. omega arith) (coverage .1) in
+    let inside = passes (rowsFit start end rows) 3 _ (λ z. omega arith) (count .1) in
+    passes (givenFit rows seeds) 4 _ (λ z. omega arith) (inside .1) .0
+
 pub early-divided : (start end : ℕ) (rows seeds : List ℕ) (words : ℕ) → earlyNumber start end rows seeds words ≡ 0 → Divided start end rows (endsOf rows seeds) words
 unfolding earlyNumber coverageFits countFits roomFits
 early-divided start end rows seeds words e =

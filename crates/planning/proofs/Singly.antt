@@ -5,7 +5,7 @@ use mathlib.Core.Bool.{Bool, true, false, false≢true}
 use mathlib.Core.Logic.{⊎-elim}
 use mathlib.Core.List.{List, [], _∷_, _++_}
 use Prim.Native.Nat.{ℕ, suc, _+_, _-_, _*_, _/_, _^_, _<_, _≤_}
-use native.Mathlib.Nat.{mod-eq-of-lt, le-refl}
+use native.Mathlib.Nat.{mod-eq-of-lt}
 use native.Mathlib.Omega.{arith}
 use lib.Dec.{eqb}
 use lib.ListN.{length, getD, drop}
@@ -17,7 +17,7 @@ use Rattle.model.specs.Lists.{Rising, none, more, has, shift, lower, runsOf}
 use Rattle.model.proofs.Tests.{either, both-true, pick-true, pick-false}
 use Rattle.model.proofs.Rising.{rising-low, rising-high, rising-below}
 use Rattle.model.proofs.Standing.{has-at}
-use Rattle.model.proofs.Append.{shift-zero, shift-lower, length-lower}
+use Rattle.model.proofs.Append.{shift-zero, length-lower}
 use Rattle.lists.proofs.Bytes.{length-layout}
 use Rattle.forms.specs.Forms.{byTag, localAccepts, localLayout}
 use Rattle.forms.proofs.Laid.{LocalFits, layout-accepts, layout-names, fits-dense, fits-wide-list, fits-list, fits-runs, fits-wide-runs, fits-bitmap, fits-missing, runs-layout-length, wide-runs-layout-length}
@@ -26,13 +26,13 @@ use Rattle.single.specs.Layout.{firstOf, extentOf, plainLayout, trimmedLayout, 
 use Rattle.single.specs.declared.View.{View}
 use Rattle.rowset.specs.Bodies.{accepts, names}
 use Rattle.cost.specs.declared.Form.{Form}
-use Rattle.cost.specs.Statistics.{statsOf, spanOf}
+use Rattle.cost.specs.Statistics.{statsOf}
 use Rattle.cost.specs.Forms.{denseForm, itemsForm, bitmapForm, wholeForm}
-use Rattle.cost.proofs.Joining.{reach, runs-most}
+use Rattle.cost.proofs.Joining.{runs-most}
 use Rattle.cost.proofs.Positions.{getD-positions, positions-lower}
-use Rattle.cost.proofs.Layouts.{own-rising}
 use Rattle.cost.proofs.Chosen as cheapest
 use Rattle.cost.proofs.Chosen.{Whole, whole-chosen}
+use Rattle.planning.proofs.Parts.{extent-end, own-rises, own-back}
 
 -- a body that is accepted under its tag, and names these rows
 pub record Holds (tag span : ℕ) (rows body : List ℕ) : Type 0 where
@@ -107,11 +107,6 @@ wide-list-length span xs = length-layout 4 xs
 -- a plain form has no ends to be present
 plain : {A : Type 0} → false ≡ true → A
 plain e = absurd (false≢true e)
-
-from-first : {a b : ℕ} {xs : List ℕ} → Rising a b xs → Rising (firstOf xs) b xs
-unfolding firstOf
-from-first none = none
-from-first (more {x = x} l h r) = more (le-refl x) h r
 
 -- no position is past the last
 narrow : {a b c : ℕ} {xs : List ℕ} → Rising a b xs → getD xs (length xs - 1) 0 < c → Rising a c xs
@@ -194,25 +189,16 @@ module _ {span : ℕ} {xs : List ℕ} (r : Rising 0 span xs) (some : 1 ≤ lengt
   own-at : (k : ℕ) → k < length xs → getD own k 0 ≡ getD xs k 0 - first
   own-at k h = rw (← positions-lower first xs) (getD-positions first xs k h)
 
-  extent-is : extent ≡ spanOf (statsOf xs)
-  unfolding extentOf firstOf statsOf
-  extent-is = omega (arith, reach r some)
-
-  own-rises : Rising 0 extent own
-  unfolding firstOf
-  own-rises = rw (extent-is, ← positions-lower first xs) (own-rising xs r some)
-
   own-ends : both (has own 0) (has own (extent - 1)) ≡ true
-  unfolding extentOf firstOf
+  unfolding firstOf
   own-ends =
       let n : length own ≡ length xs = length-lower first xs in
       let low : getD own 0 0 ≡ 0 = own-at 0 some ∙ omega arith in
-      let high : getD own (length xs - 1) 0 ≡ extent - 1 = own-at (length xs - 1) (omega arith) ∙ omega (arith, reach r some) in
+      let high : getD own (length xs - 1) 0 ≡ extent - 1 = own-at (length xs - 1) (omega arith) ∙ omega (arith, extent-end r some) in
       both-true _ _ (rw low at (has-at own 0 (omega arith))) (rw high at (has-at own (length xs - 1) (omega arith)))
 
   own-inside : first + extent ≤ span
-  unfolding extentOf firstOf
-  own-inside = omega (arith, reach r some, rising-below r (length xs - 1) (omega arith))
+  own-inside = omega (arith, extent-end r some, rising-below r (length xs - 1) (omega arith))
 
   trimmed : (tag form offset : ℕ) (body : List ℕ) → viewOf tag span body ≡ view form true first extent (length xs) offset → fieldsOk tag body ≡ true → offset ≤ length body
       → drop offset body ≡ localLayout form extent own → (1 ≤ length own → length own ≤ 65535 → LocalFits form extent own)
@@ -228,7 +214,7 @@ module _ {span : ℕ} {xs : List ℕ} (r : Rising 0 span xs) (some : 1 ≤ lengt
       let base = back 4 first (omega (arith, own-inside)) in
       let size = back 4 extent (omega (arith, own-inside)) in
       let long : 12 ≤ length (singleLayout 6 true span xs) = omega arith in
-      trimmed 6 6 12 (singleLayout 6 true span xs) (rw (le-leb 12 (length (singleLayout 6 true span xs)) long, n, base, size)) refl (omega arith) refl (λ s f. fits-bitmap own-rises s f)
+      trimmed 6 6 12 (singleLayout 6 true span xs) (rw (le-leb 12 (length (singleLayout 6 true span xs)) long, n, base, size)) refl (omega arith) refl (λ s f. fits-bitmap (own-rises r some) s f)
 
   write-trimmed-missing : extent ≤ 65535 → Written 8 span (view 7 true first extent (length xs) 8) own (singleLayout 8 true span xs)
   unfolding singleLayout trimmedLayout viewOf trimmedMissingView fieldsOk pick digits le
@@ -236,7 +222,7 @@ module _ {span : ℕ} {xs : List ℕ} (r : Rising 0 span xs) (some : 1 ≤ lengt
       let n = counted in
       let base = back 4 first (omega (arith, own-inside)) in
       let size = back 2 extent (omega arith) in
-      trimmed 8 7 8 _ (rw (n, base, size)) refl (omega arith) refl (λ s f. fits-missing own-rises s f narrow)
+      trimmed 8 7 8 _ (rw (n, base, size)) refl (omega arith) refl (λ s f. fits-missing (own-rises r some) s f narrow)
 
   -- ---- by tag: accepted, and the rows back
 
@@ -244,7 +230,7 @@ module _ {span : ℕ} {xs : List ℕ} (r : Rising 0 span xs) (some : 1 ≤ lengt
   plainly w z e = written-holds w e (rw z (shift-zero xs))
 
   from-own : {tag : ℕ} {v : View} {body : List ℕ} → Written tag span v own body → v .base ≡ first → eqb tag 9 ≡ false → Holds tag span xs body
-  from-own w b e = written-holds w e (rw b (shift-lower first (le-refl first) (from-first r)))
+  from-own w b e = written-holds w e (rw b (own-back r some))
 
   pub single-holds : {tag : ℕ} {trims : Bool} → SingleFits span xs tag trims → Holds tag span xs (singleLayout tag trims span xs)
   single-holds (dense e) = plainly (write-dense e) refl refl
@@ -260,7 +246,7 @@ module _ {span : ℕ} {xs : List ℕ} (r : Rising 0 span xs) (some : 1 ≤ lengt
   -- ---- the cheapest whole form
 
   each-fits : (f : Form) → Whole (statsOf xs) span f → SingleFits span xs (f .tag) (f .trimmed)
-  unfolding denseForm itemsForm bitmapForm statsOf
+  unfolding denseForm itemsForm bitmapForm statsOf firstOf
   each-fits _ (cheapest.dense e) = dense e
   each-fits _ cheapest.list32 = list32
   each-fits _ (cheapest.list16 h) = list16 (narrow r (omega arith))
@@ -269,7 +255,7 @@ module _ {span : ℕ} {xs : List ℕ} (r : Rising 0 span xs) (some : 1 ≤ lengt
   each-fits _ cheapest.bitmap = bitmap
   each-fits _ cheapest.trimmed-bitmap = trimmed-bitmap
   each-fits _ (cheapest.missing h) = missing h
-  each-fits _ (cheapest.trimmed-missing h) = trimmed-missing (omega (arith, extent-is))
+  each-fits _ (cheapest.trimmed-missing h) = trimmed-missing (omega (arith, extent-end r some))
 
   pub whole-holds : Holds (wholeForm (statsOf xs) span .tag) span xs (singleLayout (wholeForm (statsOf xs) span .tag) (wholeForm (statsOf xs) span .trimmed) span xs)
   whole-holds = single-holds (each-fits (wholeForm (statsOf xs) span) (whole-chosen (statsOf xs) span))
