@@ -10,7 +10,7 @@ use native.Mathlib.Nat.{le-trans, sub-zero}
 use native.Mathlib.Omega.{arith}
 use lib.Dec.{eqb, leb, lit<}
 use lib.ListN.{length}
-use borrow.Author.Tests.{le-leb, eqb-true}
+use borrow.Author.Tests.{le-leb}
 use Rattle.model.specs.Tests.{pick, both}
 use Rattle.model.specs.Answers.{Answer, accepted, refused}
 use Rattle.model.proofs.Tests.{either, pick-true, pick-false, both-true}
@@ -21,8 +21,9 @@ use Rattle.cost.specs.Rows.{positionsOf}
 use Rattle.cost.specs.Statistics.{statsOf}
 use Rattle.cost.proofs.Least.{least-each}
 use Rattle.planning.specs.Refusals.{coverageFits, countFits, rowsFit, givenFit, roomFits, earlyNumber}
-use Rattle.planning.specs.Planning.{plannedSegments, plannedForm, lateNumber, plannedOffers, plannedValues, answered, planNumber, planOf}
+use Rattle.planning.specs.Planning.{plannedSegments, plannedForm, lateNumber, planNumber, planOf}
 use Rattle.planning.proofs.Choosing.{chosen-short}
+use Rattle.planning.proofs.Accepted.{plan-number}
 use Rattle.deletion.specs.Reading.{bodyLimit, blockFits}
 use Rattle.deletion.specs.Striking.{strikeOf}
 
@@ -82,16 +83,8 @@ module _ (rows : ℕ) (ordinals : List ℕ) (words room : ℕ) (small : rows ≤
       (λ h. let z : earlyNumber 0 rows ordinals [] words ≡ 6 = sym (pick-false _ _ h) ∙ e in omega (arith, early-most 0 rows ordinals [] words))
       (either (eqb (earlyNumber 0 rows ordinals [] words) 0))
 
-pub answered-number : (n : ℕ) (vs : List ℕ) → answered n vs .number ≡ n
-unfolding answered
-answered-number n vs =
-    ⊎-elim
-    (λ h. ap (λ (a : Answer). a .number) (pick-true _ _ h) ∙ sym (eqb-true n 0 h))
-    (λ h. ap (λ (a : Answer). a .number) (pick-false _ _ h))
-    (either (eqb n 0))
-
 pub never-six : (rows limit : ℕ) (ordinals : List ℕ) (words room : ℕ) → rows ≤ 65535 → strikeOf rows limit ordinals words room .number ≡ 6 → ⊥
-unfolding strikeOf planOf
+unfolding strikeOf
 never-six rows limit ordinals words room small e =
     let plan = planOf 0 rows ordinals [] (bodyLimit rows) words room in
     let inner = pick (leb 1 (length ordinals)) plan (accepted []) in
@@ -101,7 +94,7 @@ never-six rows limit ordinals words room small e =
     ⊎-elim
     (λ g.
     plan-other rows ordinals words room small
-    (sym (answered-number _ _) ∙ sym (ap (λ (a : Answer). a .number) (pick-true plan (accepted []) g)) ∙ e1))
+    (sym (plan-number 0 rows ordinals [] (bodyLimit rows) words room) ∙ sym (ap (λ (a : Answer). a .number) (pick-true plan (accepted []) g)) ∙ e1))
     (λ g. let z : _≡_ {A = ℕ} 0 6 = sym (ap (λ (a : Answer). a .number) (pick-false plan (accepted []) g)) ∙ e1 in omega arith)
     (either (leb 1 (length ordinals))))
     (λ h. let z : _≡_ {A = ℕ} 9 6 = sym (ap (λ (a : Answer). a .number) (pick-false inner (refused 9) h)) ∙ e in omega arith)
