@@ -2,7 +2,7 @@
 -- those ordinals, and a walk writes them out again.
 -- Assumes nothing.
 use mathlib.Core.Path.{_≡_, refl, sym, ap, _∙_}
-use mathlib.Core.Bool.{Bool, true, false}
+use mathlib.Core.Bool.{true}
 use mathlib.Core.Logic.{⊎-elim}
 use mathlib.Core.List.{List, [], _∷_}
 use Prim.Native.Nat.{ℕ, _-_, _≤_}
@@ -18,12 +18,12 @@ use Rattle.model.specs.Answers.{Answer, accepted, refused, over}
 use Rattle.model.proofs.Tests.{either, pick-true, pick-false, both-true}
 use Rattle.model.proofs.Rising.{rising-room}
 use Rattle.model.proofs.Writing.{over-take}
-use Rattle.rowset.specs.Bodies.{accepts, names}
+use Rattle.rowset.specs.Bodies.{accepts}
 use Rattle.cost.specs.Rows.{positionsOf}
 use Rattle.planning.specs.Planning.{plannedForm, plannedBody, plannedSegments, plannedOffers, plannedValues, planNumber, planOf, planOut}
 use Rattle.planning.proofs.Accepted.{Planned, planned, plan-divided, plan-number, plan-accepted}
 use Rattle.deletion.specs.Reading.{bodyLimit, blockFits, statedFit, codedNumber, sectionNumber, deletedOf, checkAnswer, containsAnswer, walkAnswer, walkLeft}
-use Rattle.deletion.specs.Striking.{strikes, strikeOf, strikeOut}
+use Rattle.deletion.specs.Striking.{noDeletions, strikes, strikeOf, strikeOut}
 use Rattle.deletion.specs.declared.Section.{Section}
 use Rattle.deletion.specs.declared.Section.the-variants as section
 use Rattle.deletion.proofs.Sections.{answers, leaves}
@@ -47,7 +47,7 @@ unfolding strikeOf
 strike-fits rows limit ordinals words room ok =
     ⊎-elim
     (λ e. e)
-    (λ e. let z : _≡_ {A = ℕ} 9 0 = sym (ap (λ (a : Answer). a .number) (pick-false (pick (leb 1 (length ordinals)) (planOf 0 rows ordinals [] (bodyLimit rows) words room) (accepted [])) (refused 9) e)) ∙ ok in absurd (omega arith))
+    (λ e. let z : _≡_ {A = ℕ} 9 0 = sym (ap (λ (a : Answer). a .number) (pick-false (pick (leb 1 (length ordinals)) (planOf 0 rows ordinals [] (bodyLimit rows) words room) noDeletions) (refused 9) e)) ∙ ok in absurd (omega arith))
     (either (blockFits rows limit))
 
 module _ (rows limit : ℕ) (ordinals : List ℕ) (words : ℕ) (out : List ℕ) (some : 1 ≤ length ordinals) (ok : strikeOf rows limit ordinals words (length out) .number ≡ 0) where
@@ -110,7 +110,7 @@ module _ (rows limit : ℕ) (ordinals : List ℕ) (words : ℕ) (out : List ℕ)
 
 -- no deletions: the answer is Empty, and the empty section has none
 module _ (rows limit : ℕ) (fits : blockFits rows limit ≡ true) where
-  pub none-empty : (words room : ℕ) → strikeOf rows limit [] words room ≡ accepted []
+  pub none-empty : (words room : ℕ) → strikeOf rows limit [] words room ≡ noDeletions
   unfolding strikeOf
   none-empty words room = pick-true _ _ fits ∙ pick-false _ _ refl
 

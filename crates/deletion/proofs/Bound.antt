@@ -11,8 +11,8 @@ use native.Mathlib.Omega.{arith}
 use lib.Dec.{eqb, leb, lit<}
 use lib.ListN.{length}
 use borrow.Author.Tests.{le-leb}
-use Rattle.model.specs.Tests.{pick, both}
-use Rattle.model.specs.Answers.{Answer, accepted, refused}
+use Rattle.model.specs.Tests.{pick}
+use Rattle.model.specs.Answers.{Answer, refused}
 use Rattle.model.proofs.Tests.{either, pick-true, pick-false, both-true}
 use Rattle.bitmap.specs.Body.{bitmapLength}
 use Rattle.cost.specs.declared.Stats.{Stats}
@@ -25,7 +25,7 @@ use Rattle.planning.specs.Planning.{plannedSegments, plannedForm, lateNumber, p
 use Rattle.planning.proofs.Choosing.{chosen-short}
 use Rattle.planning.proofs.Accepted.{plan-number}
 use Rattle.deletion.specs.Reading.{bodyLimit, blockFits}
-use Rattle.deletion.specs.Striking.{strikeOf}
+use Rattle.deletion.specs.Striking.{noDeletions, strikeOf}
 
 -- ---- a plan is at most a bitmap of all rows
 
@@ -87,15 +87,15 @@ pub never-six : (rows limit : ℕ) (ordinals : List ℕ) (words room : ℕ) → 
 unfolding strikeOf
 never-six rows limit ordinals words room small e =
     let plan = planOf 0 rows ordinals [] (bodyLimit rows) words room in
-    let inner = pick (leb 1 (length ordinals)) plan (accepted []) in
+    let inner = pick (leb 1 (length ordinals)) plan noDeletions in
     ⊎-elim
     (λ h.
     let e1 : inner .number ≡ 6 = sym (ap (λ (a : Answer). a .number) (pick-true inner (refused 9) h)) ∙ e in
     ⊎-elim
     (λ g.
     plan-other rows ordinals words room small
-    (sym (plan-number 0 rows ordinals [] (bodyLimit rows) words room) ∙ sym (ap (λ (a : Answer). a .number) (pick-true plan (accepted []) g)) ∙ e1))
-    (λ g. let z : _≡_ {A = ℕ} 0 6 = sym (ap (λ (a : Answer). a .number) (pick-false plan (accepted []) g)) ∙ e1 in omega arith)
+    (sym (plan-number 0 rows ordinals [] (bodyLimit rows) words room) ∙ sym (ap (λ (a : Answer). a .number) (pick-true plan noDeletions g)) ∙ e1))
+    (λ g. let z : _≡_ {A = ℕ} 0 6 = sym (ap (λ (a : Answer). a .number) (pick-false plan noDeletions g)) ∙ e1 in omega arith)
     (either (leb 1 (length ordinals))))
     (λ h. let z : _≡_ {A = ℕ} 9 6 = sym (ap (λ (a : Answer). a .number) (pick-false inner (refused 9) h)) ∙ e in omega arith)
     (either (blockFits rows limit))

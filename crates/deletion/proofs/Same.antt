@@ -1,18 +1,14 @@
 -- Two results of a call with the same answer are equal, so the contracts of the calls state one result.
 -- Assumes nothing.
 use mathlib.Core.Path.{_≡_, refl, ap}
-use Prim.Native.Nat.{ℕ}
 use native.Mathlib.Omega.{arith}
 use lib.ListN.{length, getD}
 use Rattle.model.specs.Answers.{Answer}
 use Rattle.deletion.specs.Reading.{countedOf, containedOf}
-use Rattle.deletion.specs.Striking.{struckOf}
 use Rattle.deletion.specs.declared.Counted.{Counted}
 use Rattle.deletion.specs.declared.Counted.the-variants as counted
 use Rattle.deletion.specs.declared.Contained.{Contained}
 use Rattle.deletion.specs.declared.Contained.the-variants as contained
-use Rattle.deletion.specs.declared.Struck.{Struck}
-use Rattle.deletion.specs.declared.Struck.the-variants as struck
 
 -- what two equal answers have in common
 same-size : {a b : Answer} → a ≡ b → length (a .values) ≡ length (b .values)

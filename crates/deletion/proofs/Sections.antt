@@ -1,15 +1,15 @@
 -- A section that no test refuses: its body is accepted with the stated count. And the answers: refused by number, or asked.
 -- Assumes nothing.
-use mathlib.Core.Path.{_≡_, refl, sym, ap, _∙_}
-use mathlib.Core.Bool.{Bool, true, false}
-use mathlib.Core.List.{List, [], _∷_}
+use mathlib.Core.Path.{_≡_, refl, sym, _∙_}
+use mathlib.Core.Bool.{true}
+use mathlib.Core.List.{List}
 use Prim.Native.Nat.{ℕ}
 use native.Mathlib.Omega.{arith}
 use lib.Dec.{eqb}
 use lib.ListN.{length}
 use borrow.Author.Tests.{eq-eqb, ne-eqb, eqb-true}
-use Rattle.model.specs.Tests.{pick, both}
-use Rattle.model.specs.Answers.{Answer, accepted, refused}
+use Rattle.model.specs.Tests.{pick}
+use Rattle.model.specs.Answers.{accepted, refused}
 use Rattle.model.proofs.Tests.{pick-true, pick-false, both-true, both-left, both-right}
 use Rattle.gather.proofs.Admitted.{passes}
 use Rattle.rowset.specs.Bodies.{accepts, names}

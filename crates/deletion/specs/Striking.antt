@@ -3,20 +3,16 @@
 use mathlib.Core.Bool.{Bool}
 use mathlib.Core.List.{List, [], _∷_}
 use Prim.Native.Nat.{ℕ}
-use lib.Dec.{eqb, leb}
+use lib.Dec.{leb}
 use lib.ListN.{length}
 use Rattle.model.specs.Tests.{pick, both}
 use Rattle.model.specs.Answers.{Answer, accepted, refused}
 use Rattle.planning.specs.Planning.{planOf, planOut, planWork}
 use Rattle.deletion.specs.Reading.{bodyLimit, blockFits}
-use Rattle.deletion.specs.declared.Struck.{Struck}
-use Rattle.deletion.specs.declared.Struck.the-variants as struck
 
--- no tag for no deletions; tag, body length, segments after merging and offers of a plan
-unfoldable pub struckOf : Struck → Answer
-struckOf struck.Empty = accepted []
-struckOf (struck.Body tag size segments offers) = accepted (tag ∷ size ∷ segments ∷ offers ∷ [])
-struckOf (struck.Refused k) = refused k
+-- no deletions: their number, 0, and no tag
+abbrev pub noDeletions : Answer
+noDeletions = accepted (0 ∷ [])
 
 -- whether there is anything to plan: test 9 is met, and there are deletions
 unfoldable pub strikes : ℕ → ℕ → List ℕ → Bool
@@ -26,7 +22,7 @@ strikes rows limit ordinals = both (blockFits rows limit) (leb 1 (length ordinal
 unfoldable pub strikeOf : ℕ → ℕ → List ℕ → ℕ → ℕ → Answer
 strikeOf rows limit ordinals words room =
     pick (blockFits rows limit)
-    (pick (leb 1 (length ordinals)) (planOf 0 rows ordinals [] (bodyLimit rows) words room) (accepted []))
+    (pick (leb 1 (length ordinals)) (planOf 0 rows ordinals [] (bodyLimit rows) words room) noDeletions)
     (refused 9)
 
 -- the output: where nothing is planned, nothing is written

@@ -32,18 +32,6 @@ pub enum Contained {
     Refused(u8),
 }
 
-// No deletions, the plan of their body, or the number of the refusal.
-pub enum Struck {
-    Empty,
-    Body {
-        tag: u8,
-        length: u16,
-        segments: u16,
-        offers: u32,
-    },
-    Refused(u8),
-}
-
 // ---- the tests
 
 fn wide(n: u16) -> u64

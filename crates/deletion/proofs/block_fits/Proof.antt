@@ -1,7 +1,5 @@
 -- `deletion::block_fits` meets its contract.
 -- Assumes nothing.
-use mathlib.Core.Path.{sym, ap, _∙_}
-use Rattle.model.proofs.Tests.{both-first}
 use borrow.Author.Tests.{lt-leb, le-leb}
 use Rattle.model.specs.Tests.{both}
 use Rattle.deletion.specs.Reading.{blockFits}

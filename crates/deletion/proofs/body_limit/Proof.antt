@@ -1,6 +1,5 @@
 -- `deletion::body_limit` meets its contract.
 -- Assumes nothing.
-use mathlib.Core.Path.{_∙_}
 use native.Mathlib.Omega.{arith}
 use Rattle.deletion.specs.Reading.{bodyLimit}
 use borrow.Author.Needs.{needs}

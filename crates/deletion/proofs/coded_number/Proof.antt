@@ -1,10 +1,9 @@
 -- `deletion::coded_number` meets its contract.
 -- Assumes nothing.
-use mathlib.Core.Path.{_≡_, sym, ap, _∙_}
-use mathlib.Core.Bool.{true, false}
+use mathlib.Core.Path.{sym, _∙_}
 use borrow.Author.Tests.{not-true, not-false, eq-eqb, ne-eqb}
 use Rattle.model.specs.Tests.{pick, both}
-use Rattle.deletion.specs.Reading.{blockFits, statedFit, codedNumber}
+use Rattle.deletion.specs.Reading.{codedNumber}
 use borrow.Author.Needs.{needs}
 use Rattle.deletion.proofs.coded_number.Statement.{statement}
 use Rattle.deletion.proofs.coded_number.Tie as tie

@@ -3,7 +3,6 @@
 use Prim.Native.Nat.{_-_}
 use native.Mathlib.Omega.{arith}
 use Rattle.deletion.proofs.Walking.{Copied, copied-start, copied-length, copied-next, copied-end}
-use borrow.Author.Needs.{needs}
 use Rattle.deletion.proofs.copy.Statement.{statement}
 use Rattle.deletion.proofs.copy.Tie as tie
 

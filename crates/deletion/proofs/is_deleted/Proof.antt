@@ -1,6 +1,5 @@
 -- `deletion::is_deleted` meets its contract.
 -- Assumes nothing.
-use mathlib.Core.Path.{sym, ap, _∙_}
 use Rattle.model.specs.Lists.{has}
 use Rattle.deletion.specs.Reading.{deletedOf}
 use Rattle.deletion.proofs.Sections.{coded-accepted}

@@ -1,8 +1,6 @@
 -- `deletion::number` meets its contract.
 -- Assumes nothing.
-use mathlib.Core.Path.{sym, ap, _∙_}
 use Rattle.deletion.specs.Reading.{sectionNumber}
-use Rattle.deletion.specs.declared.Section.{Section}
 use borrow.Author.Needs.{needs}
 use Rattle.deletion.proofs.number.Statement.{statement}
 use Rattle.deletion.proofs.number.Tie as tie

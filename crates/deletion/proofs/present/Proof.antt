@@ -1,9 +1,6 @@
 -- `deletion::present` meets its contract.
 -- Assumes nothing.
-use mathlib.Core.Path.{sym, ap, _∙_}
 use Rattle.model.specs.Lists.{placeOf}
-use Rattle.model.specs.declared.Place.{Place}
-use borrow.Author.Needs.{needs}
 use Rattle.deletion.proofs.present.Statement.{statement}
 use Rattle.deletion.proofs.present.Tie as tie
 
@@ -13,4 +10,4 @@ present-spec =
     tie.close
     (tie.spec
     (λ c κs. c .before .pre)
-    (λ c. ap (λ (q : Place). q .present) (c .place .ensures)))
+    (λ c. cc))

@@ -6,7 +6,6 @@ use Rattle.fields.specs.Le.{Bytes}
 use Rattle.rowset.specs.Bodies.{names}
 use Rattle.rowset.proofs.Demands.{names-most}
 use Rattle.deletion.proofs.Walking.{Filling, filling-start, filling-length, filling-next, filling-end}
-use borrow.Author.Needs.{needs}
 use Rattle.deletion.proofs.write_from.Statement.{statement}
 use Rattle.deletion.proofs.write_from.Tie as tie
 
