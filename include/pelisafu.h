@@ -48,6 +48,17 @@ struct pelisafu_part {
     bool found;
 };
 
+/* The same as it stands in a table that is lent. A table has 16 bytes for each entry; the last one of them is not to be read. */
+struct pelisafu_entry {
+    uint32_t start;
+    uint16_t span;
+    uint16_t count;
+    uint16_t ordinal;
+    uint16_t offset;
+    uint16_t length;
+    uint8_t tag;
+};
+
 /* Where gathering stands: entries of the table in use, rows gathered, first row of the last seed, last row. All 0 to
  * begin with. number and found as above, in answers; in what is handed over they are not read. In a refusal the other
  * fields are 0, so keep the record that was handed over. */
@@ -83,6 +94,11 @@ struct pelisafu_answer pelisafu_walk(uint8_t tag, uint32_t span, const uint8_t *
 
 /* The i-th entry of the directory: none for another tag than 9, or past the end. Refuses: 8. */
 struct pelisafu_part pelisafu_segment(uint8_t tag, uint32_t span, const uint8_t *body, size_t body_length, size_t i);
+
+/* All entries of the directory, in order, into the front of table. Answers how many: 0 for another tag than 9. What stands
+ * in the table past them stays. Refuses: 8, then 7 where the table is shorter than the number of segments. */
+struct pelisafu_answer pelisafu_segments(uint8_t tag, uint32_t span, const uint8_t *body, size_t body_length,
+                                         struct pelisafu_entry *table, size_t table_length);
 
 /* One row more: the record with it in, and its seed's end in the table. Refuses: 12, 3, 2, 11, in that order. */
 struct pelisafu_gathering pelisafu_gather_row(struct pelisafu_gathering so_far, uint16_t *table, size_t table_length,

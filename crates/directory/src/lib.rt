@@ -6,6 +6,8 @@ ghost use Rattle.model.specs.Lists.{counted};
 ghost use Rattle.directory.specs.Directory.{statedSegments, startsTo, ordinalsTo, zeroAt, entryOf, isLocal, fits, segmentsFit, directoryAccepts};
 
 // One entry of the directory: where the segment starts, its span, rows, rows before it, and where its payload lies.
+// Hosts lend tables of it, so its layout is C's.
+#[repr(C)]
 pub struct Segment {
     pub start: u32,
     pub span: u16,

@@ -1,14 +1,18 @@
-// Document 01's bodies, read by the public calls: each answer on a line of its own, in ten digits, or a word.
+// Document 01's bodies, read by the public calls, and its pages and rows, gathered: each answer on a line of its own, in ten digits, or a word.
+mod gathering;
+
+use directory::Segment;
 use libc::STDOUT_FILENO;
 use rowset::Checked;
+use rowset::Filled;
 use rowset::Ranked;
 use rowset::Selected;
 
-fn digit(n: u32) -> u8 {
+fn digit(n: u64) -> u8 {
     48 + (n % 10) as u8
 }
 
-fn say(n: u32) {
+fn say(n: u64) {
     let text = [
         digit(n / 1000000000),
         digit(n / 100000000),
@@ -23,6 +27,14 @@ fn say(n: u32) {
         b'\n',
     ];
     io::write_all(STDOUT_FILENO, &text);
+}
+
+fn say32(n: u32) {
+    say(n as u64);
+}
+
+fn say16(n: u16) {
+    say(n as u64);
 }
 
 fn say_refused() {
@@ -41,14 +53,14 @@ fn say_nothing() {
 
 fn say_checked(c: Checked) {
     match c {
-        Checked::Rows(n) => say(n as u32),
+        Checked::Rows(n) => say16(n),
         Checked::Refused => say_refused(),
     }
 }
 
 fn say_ranked(r: Ranked) {
     match r {
-        Ranked::Ordinal(k) => say(k as u32),
+        Ranked::Ordinal(k) => say16(k),
         Ranked::Nothing => say_nothing(),
         Ranked::Refused => say_refused(),
     }
@@ -56,7 +68,7 @@ fn say_ranked(r: Ranked) {
 
 fn say_selected(s: Selected) {
     match s {
-        Selected::Position(p) => say(p),
+        Selected::Position(p) => say32(p),
         Selected::Nothing => say_nothing(),
         Selected::Refused => say_refused(),
     }
@@ -85,8 +97,8 @@ fn check_bodies() {
 }
 
 // Twelve rows in one segment: 100000 + 100 i.
-fn ask_segmented() {
-    let body = [
+fn twelve() -> [u8; 44] {
+    [
         12,
         0,
         1,
@@ -131,7 +143,11 @@ fn ask_segmented() {
         3,
         76,
         4,
-    ];
+    ]
+}
+
+fn ask_segmented() {
+    let body = twelve();
     say_checked(rowset::validate(9, 200000, &body));
     say_ranked(rowset::rank(9, 200000, &body, 100300));
     say_ranked(rowset::rank(9, 200000, &body, 100301));
@@ -139,12 +155,92 @@ fn ask_segmented() {
     say_selected(rowset::select(9, 200000, &body, 12));
     let mut out = [7u32; 3];
     rowset::walk(9, 200000, &body, 10, &mut out);
-    say(out[0]);
-    say(out[1]);
-    say(out[2]);
+    say32(out[0]);
+    say32(out[1]);
+    say32(out[2]);
+}
+
+fn say_segment(s: Segment) {
+    say32(s.start);
+    say16(s.span);
+    say16(s.count);
+    say16(s.ordinal);
+    say16(s.offset);
+    say16(s.length);
+    say(s.tag as u64);
+}
+
+fn say_filled(f: Filled) {
+    match f {
+        Filled::Written(n) => say((n % 1000) as u64),
+        Filled::Refused(k) => {
+            say_refused();
+            say(k as u64)
+        }
+    }
+}
+
+// A record that no directory has, to see what stays.
+fn sevens() -> Segment {
+    Segment {
+        start: 7,
+        span: 7,
+        count: 7,
+        ordinal: 7,
+        offset: 7,
+        length: 7,
+        tag: 7,
+    }
+}
+
+// Room for two records, on a body: the answer and the first record.
+fn list(tag: u8, span: u32, body: &[u8]) -> Segment {
+    let empty = sevens();
+    let pair = tables::segments_pair(tag, span, body, [empty, empty]);
+    let answer = pair.answer;
+    let table = pair.table;
+    say_filled(answer);
+    say_segment(table[0]);
+    table[1]
+}
+
+// Three segments of one row each, at 0, 2 and 4.
+fn three() -> [u8; 52] {
+    let mut body = [0u8; 52];
+    body[0] = 3;
+    body[2] = 3;
+    body[8] = 1;
+    body[10] = 1;
+    body[14] = 52;
+    body[18] = 1;
+    body[20] = 2;
+    body[24] = 1;
+    body[26] = 1;
+    body[28] = 1;
+    body[30] = 52;
+    body[34] = 1;
+    body[36] = 4;
+    body[40] = 1;
+    body[42] = 1;
+    body[44] = 2;
+    body[46] = 52;
+    body[50] = 1;
+    body
+}
+
+// The one record of twelve rows, with the second place as it was; no records of another tag; a span that is too small; a table that is.
+fn list_segments() {
+    say_segment(list(9, 200000, &twelve()));
+    say_segment(list(3, 10, &[3, 0, 4, 0, 5, 0]));
+    say_segment(list(9, 1000, &twelve()));
+    say_checked(rowset::validate(9, 5, &three()));
+    say_segment(list(9, 5, &three()));
 }
 
 fn main() {
     check_bodies();
     ask_segmented();
+    gathering::pages();
+    gathering::rows();
+    list_segments();
 }

@@ -6,6 +6,7 @@ use Prim.Native.Nat.{ℕ}
 use Rattle.model.specs.Tests.{pick, both, all}
 use Rattle.model.specs.Answers.{accepted, refused}
 use Rattle.gather.specs.declared.Gatherer.{Gatherer}
+use Rattle.gather.specs.Records.{left, rowRecord, pageRecord}
 use Rattle.gather.specs.Gather.{answered, kept, impossible, above, early, late, orElse, joins, added, addedTo, rowNumber, rowAnswer, rowTable, upAt, rises, oneSeed, addedAll, addedAllTo, seeded, paged, pagedTo, someNumber, pageNumber, pageAnswer, pageTable}
 
 nothing : Gatherer
@@ -57,3 +58,8 @@ order = (refl, refl, refl, refl)
 empty : (pageAnswer full 1 [] ≡ accepted (1 ∷ 65535 ∷ 5 ∷ 70000 ∷ [])) × (pageAnswer full 0 [] ≡ refused 12)
 unfolding full answered impossible pageNumber pageAnswer pick
 empty = (refl, refl)
+
+-- the record lent to be changed: the new one for a page that is taken, the old one for a page or a row that is refused
+records : (pageRecord nothing 3 (0 ∷ 65534 ∷ []) ≡ record { entries = 1; rows = 2; first = 0; last = 65534 }) × (pageRecord nothing 1 (0 ∷ 65535 ∷ []) ≡ nothing) × (rowRecord after-page 1 4096 ≡ after-page)
+unfolding nothing after-page left impossible above early late orElse joins added addedAll upAt rises oneSeed seeded paged someNumber pageNumber rowNumber rowRecord pageRecord pick both all
+records = (refl, refl, refl)

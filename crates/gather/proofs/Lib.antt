@@ -7,3 +7,6 @@ pub mod Seeds
 pub mod Windows
 pub mod InTurn
 pub mod Elsewhere
+pub mod Taken
+pub mod Promised
+pub mod Walk

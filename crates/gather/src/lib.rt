@@ -5,6 +5,15 @@ ghost use lib.Dec.{ltb};
 ghost use lib.ListN.{length};
 ghost use Rattle.gather.specs.Gather.{answerOf, impossible, above, early, late, joins, added, addedTo, rowNumber, rowAnswer, rowTable, rises, oneSeed, addedAll, addedAllTo, seeded, paged, pagedTo, someNumber, pageAnswer, pageTable, Counted, Paging};
 
+mod lent;
+
+pub use lent::Added;
+pub use lent::Step;
+pub use lent::add_page;
+pub use lent::add_row;
+pub use lent::lend_page;
+pub use lent::lend_row;
+
 // Entries of the table in use, rows gathered, first row of the last seed, last row.
 pub struct Gatherer {
     pub entries: usize,

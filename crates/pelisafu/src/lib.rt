@@ -1,5 +1,6 @@
 // The C interface: each public call under its plain name. An exported function cannot answer an enum, so each answers
 // a struct: the number of the refusal, 0 for none, whether there are values, and the values, 0 where there are none.
+use directory::Segment;
 use gather::Gathered;
 use gather::Gatherer;
 use rowset::Checked;
@@ -11,6 +12,7 @@ ghost use mathlib.Core.Path.{_≡_};
 ghost use lib.ListN.{length};
 ghost use Rattle.model.specs.Answers.{refused};
 ghost use Rattle.rowset.specs.Calls.{checkedOf, rankedOf, selectedOf, filledOf, entryAnswer, validateOf, rankAnswer, ranksAnswer, ranksLeft, selectAnswer, walkAnswer, walkLeft, segmentAnswer};
+ghost use Rattle.tables.specs.Tables.{segmentsAnswer, segmentsLeft};
 ghost use Rattle.gather.specs.Gather.{answerOf, rowAnswer, rowTable, pageAnswer, pageTable};
 ghost use Rattle.pelisafu.specs.Shown.{shown, shownEntry, shownRecord, recordOf};
 
@@ -253,6 +255,19 @@ pub extern "C" fn pelisafu_segment(tag: u8, span: u32, body: &[u8], i: usize) ->
     ensures { λ r. ⌜ shownEntry r ≡ segmentAnswer tag span (now (body .entry)) i ⌝ }
 {
     of_entry(rowset::segment(tag, span, body, i))
+}
+
+#[no_mangle]
+pub extern "C" fn pelisafu_segments(
+    tag: u8,
+    span: u32,
+    body: &[u8],
+    table: &mut [Segment],
+) -> Answer
+    ensures { λ r. ⌜ shown r ≡ segmentsAnswer tag span (now (body .entry)) (length (now (table .entry))) ⌝ }
+    ensures { λ _. ⌜ now (table .exit) ≡ segmentsLeft tag span (now (body .entry)) (now (table .entry)) ⌝ }
+{
+    of_filled(tables::segments(tag, span, body, table))
 }
 
 // ---- gathering

@@ -22,6 +22,19 @@ struct Part {
     found: bool,
 }
 
+/// A directory entry in a table that is lent.
+#[derive(Clone, Copy, Debug, PartialEq, Eq)]
+#[repr(C)]
+pub(crate) struct Record {
+    start: u32,
+    span: u16,
+    count: u16,
+    ordinal: u16,
+    offset: u16,
+    length: u16,
+    tag: u8,
+}
+
 #[derive(Clone, Copy, Debug, Default, PartialEq, Eq)]
 #[repr(C)]
 pub(crate) struct Gathering {
@@ -57,6 +70,14 @@ unsafe extern "C" {
         out_length: usize,
     ) -> Answer;
     fn pelisafu_segment(tag: u8, span: u32, body: *const u8, length: usize, i: usize) -> Part;
+    fn pelisafu_segments(
+        tag: u8,
+        span: u32,
+        body: *const u8,
+        length: usize,
+        table: *mut Record,
+        table_length: usize,
+    ) -> Answer;
     fn pelisafu_gather_row(g: Gathering, table: *mut u16, length: usize, row: u64) -> Gathering;
     fn pelisafu_gather_page(
         g: Gathering,
@@ -87,6 +108,12 @@ impl Answer {
 
 /// The start, span, count, ordinal, offset, length and tag of a directory entry.
 pub(crate) type Entry = (u32, u16, u16, u16, u16, u16, u8);
+
+impl From<Entry> for Record {
+    fn from((start, span, count, ordinal, offset, length, tag): Entry) -> Self {
+        Self { start, span, count, ordinal, offset, length, tag }
+    }
+}
 
 /// Tag, span and body, as every reading call takes them.
 #[derive(Clone, Copy)]
@@ -141,6 +168,13 @@ impl Body<'_> {
         let part = unsafe { pelisafu_segment(tag, span, bytes.as_ptr(), bytes.len(), i) };
         let Part { start, span, count, ordinal, offset, length, tag, number, found } = part;
         told(number, found, (start, span, count, ordinal, offset, length, tag))
+    }
+
+    #[inline]
+    pub(crate) fn segments(self, table: &mut [Record]) -> Told<u64> {
+        let Self { tag, span, bytes } = self;
+        let (room, length) = (table.as_mut_ptr(), table.len());
+        unsafe { pelisafu_segments(tag, span, bytes.as_ptr(), bytes.len(), room, length) }.told()
     }
 }
 

@@ -1,7 +1,7 @@
 //! Reading by Pelisafu against reading by the original, on every body of `reading`. Nothing is taken from the plain
 //! rule, but that many ranks answer 4,294,967,295 for nothing, which the original has no call for.
 
-use super::calls::Body;
+use super::calls::{Body, Entry, Record};
 use crate::index::original::{Accepted, asserting};
 use crate::reading::{Reading, for_each, questions};
 
@@ -50,6 +50,11 @@ fn canaries(length: usize) -> Vec<u32> {
     (0..length as u32).map(|i| i.wrapping_mul(0x9E37_79B9) ^ 0xA5A5_0F0F).collect()
 }
 
+/// The same for each place of a table.
+fn records(length: usize) -> Vec<Record> {
+    canaries(length).into_iter().map(|n| Record::from((n, 1, 2, 3, 4, 5, 0xA5))).collect()
+}
+
 /// Every call refuses by number 8, before 7, and writes nothing.
 fn compare_refused(body: Body, tally: &mut Tally) -> Result<(), String> {
     same("validate", body.validate(), Err(8))?;
@@ -63,6 +68,9 @@ fn compare_refused(body: Body, tally: &mut Tally) -> Result<(), String> {
         same("walk", body.walk(0, &mut out), Err(8))?;
         same("ranks", body.ranks(&[0, 1, 2], &mut out), Err(8))?;
         same("the output after a refusal", out, canaries(room))?;
+        let mut table = records(room);
+        same("segments", body.segments(&mut table), Err(8))?;
+        same("the table after a refusal", table, records(room))?;
     }
     tally.refused += 1;
     Ok(())
@@ -161,6 +169,26 @@ impl<'a> Answers<'a> {
         }
         for past in [entries.len(), entries.len() + 1, usize::MAX] {
             same(&format!("segment {past}"), self.body.segment(past), Ok(None))?;
+        }
+        self.compare_table(&entries)
+    }
+
+    /// All of them into a table with room to spare, an exact one, and one that is too short.
+    fn compare_table(&self, entries: &[Entry]) -> Result<(), String> {
+        let mut expected = records(entries.len() + 3);
+        for (place, entry) in expected.iter_mut().zip(entries) {
+            *place = Record::from(*entry);
+        }
+        for spare in [3, 0] {
+            let mut table = records(entries.len() + spare);
+            let ours = self.body.segments(&mut table);
+            same("segments", ours, Ok(Some(entries.len() as u64)))?;
+            same("the table of segments", &table[..], &expected[..entries.len() + spare])?;
+        }
+        if let Some(less) = entries.len().checked_sub(1) {
+            let mut short = records(less);
+            same("segments into less", self.body.segments(&mut short), Err(7))?;
+            same("the table of segments into less", short, records(less))?;
         }
         Ok(())
     }

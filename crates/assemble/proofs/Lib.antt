@@ -1,0 +1,4 @@
+pub mod Records
+pub mod Summing
+pub mod Placing
+pub mod Bodies

@@ -1,0 +1,37 @@
+-- The gatherer as one record that is lent to be changed: what a call answers, and the record that it leaves.
+-- Assumes nothing.
+use Prim.Native.Nat.{ℕ, zero, suc}
+use mathlib.Core.List.{List}
+use lib.Dec.{eqb}
+use lib.ListN.{length}
+use Rattle.model.specs.Tests.{pick}
+use Rattle.model.specs.Answers.{Answer, accepted, refused}
+use Rattle.gather.specs.declared.Gatherer.{Gatherer}
+use Rattle.gather.specs.declared.Gathered.{Gathered}
+use Rattle.gather.specs.declared.Gathered.the-variants as core
+use Rattle.gather.specs.declared.lent.Added.{Added}
+use Rattle.gather.specs.declared.lent.Added.the-variants.{Done, Refused}
+use Rattle.gather.specs.declared.lent.Step.{Step}
+use Rattle.gather.specs.Gather.{valuesOf, rowNumber, added, pageNumber, paged}
+
+-- document 01's number and values of each case: where a call was done, the values are those of the record that it left
+unfoldable pub addedAnswer : Added → Gatherer → Answer
+addedAnswer Done after = accepted (valuesOf after)
+addedAnswer (Refused k) after = refused k
+
+-- the record that is left, by the number of a refusal, 0 for none: a refusal changes no record
+unfoldable pub left : ℕ → Gatherer → Gatherer → Gatherer
+left zero old new = new
+left (suc k) old new = old
+
+unfoldable pub rowRecord : Gatherer → ℕ → ℕ → Gatherer
+rowRecord g room row = left (rowNumber g room row) g (added g row)
+
+-- an empty page changes nothing
+unfoldable pub pageRecord : Gatherer → ℕ → List ℕ → Gatherer
+pageRecord g room rows = left (pageNumber g room rows) g (pick (eqb (length rows) 0) g (paged g rows))
+
+-- the by-value answer taken apart, over the old record
+unfoldable pub stepOf : Gatherer → Gathered → Step
+stepOf old (core.Record g) = record { answer = Done; after = g }
+stepOf old (core.Refused k) = record { answer = Refused k; after = old }

@@ -1,0 +1,175 @@
+-- Ends of seeds that follow one another: test 4 in two parts, and what the first of them says of every end.
+-- Assumes nothing.
+use mathlib.Core.Path.{_≡_, refl, sym, _∙_}
+use mathlib.Core.Bool.{Bool, true, false, _&&_, not}
+use mathlib.Core.List.{List}
+use Prim.Native.Nat.{ℕ, zero, suc, _+_, _-_, _<_, _≤_}
+use native.Mathlib.Numerals.{add-one}
+use native.Mathlib.Omega.{arith}
+use lib.Dec.{eqb, ltb}
+use lib.ListN.{length, getD}
+use borrow.Author.Tests.{ltb-true, lt-ltb, le-leb, eqb-true, eq-eqb, ne-eqb, not-true, not-false}
+use Rattle.model.specs.Tests.{both, all}
+use Rattle.model.proofs.Tests.{same-test, both-true, both-left, both-right, both-first, all-at, all-from, all-step, pick-true, pick-false}
+use Rattle.model.proofs.Windows.{windows-level}
+use Rattle.gather.specs.Gather.{upAt, rises}
+use Rattle.gather.specs.Seeds.{startOf, seedAt, seedsFit, windows}
+use Rattle.gather.proofs.Admitted.{and-both}
+use Rattle.planning.specs.Refusals.{givenFit, endsOf}
+use Rattle.seeds.specs.Ends.{endsRise, near, nearAt}
+
+-- a test by its answer
+pub met : {t u : Bool} → t ≡ u → not t ≡ false → u ≡ true
+met {t} e f = sym e ∙ not-false t f
+
+pub missed : {t u : Bool} → t ≡ u → not t ≡ true → u ≡ false
+missed {t} e f = sym e ∙ not-true t f
+
+-- seed i has a row, and ends within n rows
+pub record Following (n : ℕ) (ends : List ℕ) : Type 0 where
+  pub some : (i : ℕ) → i < length ends → startOf ends i < getD ends i 0
+  pub inside : (i : ℕ) → i < length ends → getD ends i 0 ≤ n
+
+-- as many seeds as rows at most
+module _ {n : ℕ} {ends : List ℕ} (f : Following n ends) where
+  reach : (i : ℕ) → i ≤ length ends → i ≤ startOf ends i
+  unfolding startOf
+  reach zero h = omega arith
+  reach (suc i) h = omega (arith, reach i (omega arith), f .some i h)
+
+  room : (i : ℕ) → i ≤ length ends → i ≤ n
+  unfolding startOf
+  room zero h = omega arith
+  room (suc i) h = omega (arith, reach (suc i) h, f .inside i h)
+
+  pub following-few : length ends ≤ n
+  following-few = room (length ends) (omega arith)
+
+-- ---- a list that rises
+
+module _ (xs : List ℕ) (e : rises xs ≡ true) where
+  pub rises-next : (i : ℕ) → suc i < length xs → getD xs i 0 < getD xs (suc i) 0
+  unfolding rises upAt
+  rises-next i h = let up : getD xs i 0 < getD xs (i + 1) 0 = ltb-true _ _ (all-at (upAt xs) (length xs - 1) e i (omega arith)) in rw (add-one i) at up
+
+  pub rises-level : (i j : ℕ) → i ≤ j → j < length xs → getD xs i 0 ≤ getD xs j 0
+  rises-level = let at : ℕ → ℕ = λ k. getD xs k 0 in windows-level at at (length xs) (λ k l. omega arith) (λ k l. omega (arith, rises-next k l))
+
+-- one turn of a loop that keeps a flag
+pub flag-step : (t : ℕ → Bool) (i : ℕ) (ok : Bool) → ok ≡ all t i → (ok && t i) ≡ all t (i + 1)
+flag-step t i ok e = rw e (and-both _ _ ∙ sym (all-step t i))
+
+-- ---- the first part of test 4
+
+module _ (n : ℕ) (ends : List ℕ) (e : endsRise n ends ≡ true) where
+  ends-rises : rises ends ≡ true
+  unfolding endsRise
+  ends-rises = both-right _ _ (both-left _ _ e)
+
+  last-end : getD ends (length ends - 1) 0 ≡ n
+  unfolding endsRise
+  last-end = eqb-true _ _ (both-right _ _ e)
+
+  end-some : (i : ℕ) → i < length ends → startOf ends i < getD ends i 0
+  unfolding startOf endsRise
+  end-some zero h = ltb-true _ _ (both-left _ _ (both-left _ _ e))
+  end-some (suc i) h = rises-next ends ends-rises i h
+
+  pub rise-following : Following n ends
+  rise-following = record { some = end-some; inside = λ i h. omega (arith, last-end, rises-level ends ends-rises i (length ends - 1) (omega arith) (omega arith)) }
+
+-- as it is computed
+pub ends-tested : (n : ℕ) (ends : List ℕ) (last : ℕ) (r : Bool) → last ≡ getD ends (length ends - 1) 0 → r ≡ rises ends → (ltb 0 (getD ends 0 0) && r && eqb last n) ≡ endsRise n ends
+unfolding endsRise
+ends-tested n ends last r l e = rw (l, e, and-both (ltb 0 (getD ends 0 0)) (rises ends)) (and-both _ _)
+
+-- ---- the second part
+
+pub near-low : (rows : List ℕ) (a b : ℕ) → getD rows (b - 1) 0 ≤ getD rows a 0 → true ≡ near rows a b
+unfolding near
+near-low rows a b h = let z : getD rows (b - 1) 0 - getD rows a 0 ≤ 65534 = omega arith in sym (le-leb _ _ z)
+
+-- a loop over the seeds, before seed i
+pub record Nearing (rows ends : List ℕ) (ok : Bool) (a i : ℕ) : Type 0 where
+  pub within : i ≤ length ends
+  pub from : a ≡ startOf ends i
+  pub so : ok ≡ all (nearAt rows ends) i
+
+module _ (rows ends : List ℕ) where
+  pub nearing-start : Nearing rows ends true 0 0
+  unfolding startOf all
+  nearing-start = record { within = omega arith; from = refl; so = refl }
+
+  module _ (ok : Bool) (a i b : ℕ) (k : Nearing rows ends ok a i) (h : i < length ends) (e : b ≡ getD ends i 0) where
+    pub nearing-range : endsRise (length rows) ends ≡ true → (a < b) × (b ≤ length rows)
+    nearing-range t = let f = rise-following (length rows) ends t in rw (k .from, e) (f .some i h, f .inside i h)
+
+    pub nearing-next : (r : Bool) → r ≡ near rows a b → Nearing rows ends (ok && r) b (i + 1)
+    unfolding startOf nearAt
+    nearing-next r q = record {
+      within = omega arith;
+      from = rw (add-one i) e;
+      so = rw (q, k .from, e) (flag-step (nearAt rows ends) i ok (k .so));
+    }
+
+  pub nearing-end : (ok : Bool) (a i : ℕ) → Nearing rows ends ok a i → length ends ≤ i → ok ≡ all (nearAt rows ends) (length ends)
+  nearing-end ok a i k h = let w = k .within in let e : i ≡ length ends = omega arith in rw e at (k .so)
+
+-- ---- test 4 is both of its parts
+
+module _ (rows ends : List ℕ) (some : 1 ≤ length ends) where
+  module _ (e : seedsFit rows ends ≡ true) where
+    fit-at : (i : ℕ) → i < length ends → seedAt rows ends i ≡ true
+    unfolding seedsFit
+    fit-at i h = all-at (seedAt rows ends) (length ends) (both-left _ _ e) i h
+
+    fit-rises : endsRise (length rows) ends ≡ true
+    unfolding endsRise seedsFit seedAt startOf rises upAt
+    fit-rises =
+        let up : (i : ℕ) → i < length ends - 1 → upAt ends i ≡ true = λ i h. rw add-one (both-left _ _ (fit-at (suc i) (omega arith))) in
+        both-true _ _ (both-true _ _ (both-left _ _ (fit-at 0 some)) (all-from (upAt ends) (length ends - 1) up)) (both-right _ _ e)
+
+    fit-near : all (nearAt rows ends) (length ends) ≡ true
+    unfolding seedAt nearAt near
+    fit-near = all-from (nearAt rows ends) (length ends) (λ i h. both-right _ _ (fit-at i h))
+
+  parts-fit : both (endsRise (length rows) ends) (all (nearAt rows ends) (length ends)) ≡ true → seedsFit rows ends ≡ true
+  unfolding seedsFit seedAt nearAt near
+  parts-fit e =
+      let r = both-left _ _ e in
+      let f = rise-following (length rows) ends r in
+      both-true _ _
+      (all-from (seedAt rows ends) (length ends) (λ i h. both-true _ _ (lt-ltb _ _ (f .some i h)) (all-at (nearAt rows ends) (length ends) (both-right _ _ e) i h)))
+      (eq-eqb _ _ (last-end (length rows) ends r))
+
+  pub fit-parts : seedsFit rows ends ≡ both (endsRise (length rows) ends) (all (nearAt rows ends) (length ends))
+  fit-parts = same-test (seedsFit rows ends) (both (endsRise (length rows) ends) (all (nearAt rows ends) (length ends))) (λ e. both-true _ _ (fit-rises e) (fit-near e)) parts-fit
+
+  -- as it is computed
+  pub unfit : endsRise (length rows) ends ≡ false → false ≡ seedsFit rows ends
+  unfit e = sym (fit-parts ∙ both-first _ _ e)
+
+  pub fit-by : endsRise (length rows) ends ≡ true → (r : Bool) → r ≡ all (nearAt rows ends) (length ends) → r ≡ seedsFit rows ends
+  unfolding both
+  fit-by e r q = q ∙ sym (rw e at fit-parts)
+
+-- ---- ends given, or none
+
+module _ (rows seeds : List ℕ) where
+  module _ (z : length seeds ≡ 0) where
+    pub none-fit : givenFit rows seeds ≡ true
+    unfolding givenFit
+    none-fit = pick-true _ _ (eq-eqb _ _ z)
+
+    pub none-ends : endsOf rows seeds ≡ windows rows
+    unfolding endsOf
+    none-ends = pick-true _ _ (eq-eqb _ _ z)
+
+  module _ (nz : length seeds ≡ 0 → ⊥) where
+    pub given-fit : givenFit rows seeds ≡ seedsFit rows seeds
+    unfolding givenFit
+    given-fit = pick-false _ _ (ne-eqb _ _ nz)
+
+    pub given-ends : endsOf rows seeds ≡ seeds
+    unfolding endsOf
+    given-ends = pick-false _ _ (ne-eqb _ _ nz)

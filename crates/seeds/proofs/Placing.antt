@@ -1,0 +1,141 @@
+-- The seeds one after the other: where each starts and ends, its part of the rows, and its statistics in its record.
+-- Assumes nothing.
+use mathlib.Core.Path.{_≡_, refl, sym, ap, _∙_}
+use mathlib.Core.Logic.{⊎-elim}
+use mathlib.Core.List.{List, [], _∷_}
+use Prim.Native.Nat.{ℕ, zero, suc, _+_, _-_, _*_, _<_, _≤_}
+use native.Mathlib.Nat.{sub-zero}
+use native.Mathlib.Numerals.{add-one}
+use native.Mathlib.Omega.{arith}
+use lib.ListN.{length, getD, take, drop, length-append, length-take, length-drop}
+use Rattle.model.specs.Lists.{Rising, none, more}
+use Rattle.model.proofs.Tests.{strictly, same-or-not, last-or-before}
+use Rattle.model.proofs.Rising.{rising-wider}
+use Rattle.cost.specs.declared.Stats.{Stats}
+use Rattle.cost.specs.Statistics.{statsOf}
+use Rattle.cost.specs.Rows.{positionsOf, Covered}
+use Rattle.cost.proofs.Positions.{positions-take, positions-drop, covered-few}
+use Rattle.gather.specs.Seeds.{startOf, windows}
+use Rattle.merge.specs.Tables.{putStat}
+use Rattle.merge.proofs.Tables.{stat-length, stat-here, stat-other}
+use Rattle.planning.specs.Refusals.{endsOf}
+use Rattle.planning.specs.Segments.{part, between}
+use Rattle.seeds.specs.Ends.{Window}
+use Rattle.seeds.specs.Placed.{Seeded, Placed, Begun, Ranged}
+use Rattle.seeds.proofs.Ends.{Following, none-ends, given-ends}
+use Rattle.seeds.proofs.Windows.{windows-each, window-only, ends-following}
+use Rattle.seeds.proofs.Judging.{Passed}
+
+-- ---- a part of rows
+
+rising-take : {a b : ℕ} {xs : List ℕ} (n : ℕ) → Rising a b xs → Rising a b (take n xs)
+rising-take zero r = none
+rising-take (suc n) none = none
+rising-take (suc n) (more l h r) = more l h (rising-take n r)
+
+rising-drop : {a b : ℕ} {xs : List ℕ} (n : ℕ) → Rising a b xs → Rising a b (drop n xs)
+rising-drop zero r = r
+rising-drop (suc n) none = none
+rising-drop (suc n) (more l h r) = rising-wider (omega arith) (omega arith) (rising-drop n r)
+
+module _ (start : ℕ) (rows : List ℕ) (a b : ℕ) (k : Ranged start rows a b) where
+  part-length : length (take (b - a) (drop a rows)) ≡ b - a
+  part-length = let l = k .inside in simp (length-take, length-drop) (omega arith)
+
+  pub part-covered : Covered start (take (b - a) (drop a rows))
+  part-covered = let s = k .some in record { some = rw part-length (omega arith); rising = rising-take (b - a) (rising-drop a (k .covered .rising)) }
+
+  pub part-few : (1 ≤ length (take (b - a) (drop a rows))) × (length (take (b - a) (drop a rows)) ≤ 4294967295)
+  part-few = (part-covered .some, covered-few start (take (b - a) (drop a rows)) part-covered)
+
+-- its positions are the part of the positions
+pub part-positions : (start : ℕ) (rows : List ℕ) (a b : ℕ) → positionsOf start (take (b - a) (drop a rows)) ≡ part (positionsOf start rows) a b
+unfolding part
+part-positions start rows a b = positions-take start (b - a) (drop a rows) ∙ ap (take (b - a)) (positions-drop start a rows)
+
+-- ordinals are positions themselves
+pub positions-zero : (xs : List ℕ) → positionsOf 0 xs ≡ xs
+unfolding positionsOf
+positions-zero [] = refl
+positions-zero (x ∷ xs) = rw (sub-zero, positions-zero xs)
+
+-- ---- where a seed ends
+
+module _ (rows seeds : List ℕ) (i a : ℕ) (k : Begun rows seeds i a) where
+  begun-following : Following (length rows) (endsOf rows seeds)
+  begun-following = ends-following rows seeds (k .some) (k .fits)
+
+  pub begun-inside : a < length rows
+  begun-inside = omega (arith, k .from, begun-following .some i (k .seed), begun-following .inside i (k .seed))
+
+  pub window-ends : length seeds ≡ 0 → (b : ℕ) → Window rows a b → b ≡ getD (endsOf rows seeds) i 0
+  window-ends z b w =
+      let e = none-ends rows seeds z in
+      let from : a ≡ startOf (windows rows) i = rw e at (k .from) in
+      let own : Window rows a (getD (windows rows) i 0) = rw from (windows-each rows (k .some) i (rw e at (k .seed))) in
+      rw e (window-only rows w own)
+
+  pub given-inside : (length seeds ≡ 0 → ⊥) → i < length seeds
+  given-inside nz = rw (given-ends rows seeds nz) at (k .seed)
+
+  pub given-end : (length seeds ≡ 0 → ⊥) → (b : ℕ) → b ≡ getD seeds i 0 → b ≡ getD (endsOf rows seeds) i 0
+  given-end nz b e = rw (given-ends rows seeds nz) e
+
+-- ---- the loop over the seeds, before seed i
+
+pub record Placing (start : ℕ) (rows seeds : List ℕ) (n : ℕ) (before w : List ℕ) (a i : ℕ) : Type 0 where
+  pub within : i ≤ n
+  pub from : a ≡ startOf (endsOf rows seeds) i
+  pub so : Placed start rows seeds i before w
+
+module _ (start : ℕ) (rows seeds : List ℕ) (n : ℕ) (before : List ℕ) (s : Seeded start rows seeds n before) where
+  pub placing-start : Placing start rows seeds n before before 0 0
+  unfolding startOf
+  placing-start = record { within = omega arith; from = refl; so = record { len = refl; stats = λ i l. absurd (omega arith) } }
+
+  module _ (w : List ℕ) (a i : ℕ) (k : Placing start rows seeds n before w a i) (h : i < n) where
+    pub placing-begun : Begun rows seeds i a
+    placing-begun = record { some = s .covered .some; fits = s .fits; seed = omega (arith, s .number); from = k .from }
+
+    pub placing-room : i * 8 + 8 ≤ length w
+    placing-room = omega (arith, s .room, k .so .len)
+
+    module _ (b : ℕ) (e : b ≡ getD (endsOf rows seeds) i 0) where
+      pub placing-range : Ranged start rows a b
+      placing-range =
+          let f = begun-following rows seeds i a placing-begun in
+          let l = placing-begun .seed in
+          record { covered = s .covered; some = rw (e, k .from) (f .some i l); inside = rw e (f .inside i l) }
+
+      pub placing-next : (t : Stats) → t ≡ statsOf (part (positionsOf start rows) a b) → (w′ : List ℕ) → w′ ≡ putStat w i t → Placing start rows seeds n before w′ b (i + 1)
+      unfolding startOf between
+      placing-next t q w′ p = record {
+        within = omega arith;
+        from = rw (add-one i) e;
+        so =
+            rw p
+            (record {
+              len = stat-length w i t ∙ k .so .len;
+              stats = λ j l.
+                  ⊎-elim
+                  (λ (z : j ≡ i). rw z (stat-here w i t placing-room ∙ q ∙ rw (k .from, e)))
+                  (λ (m : j < i). stat-other w i t j (λ z. omega arith) ∙ k .so .stats j m)
+                  (last-or-before (rw (add-one i) at l));
+            });
+      }
+
+  pub placing-end : (w : List ℕ) (a i : ℕ) → Placing start rows seeds n before w a i → n ≤ i → Placed start rows seeds n before w
+  placing-end w a i k h = let l = k .within in let e : i ≡ n = omega arith in rw e at (k .so)
+
+-- ---- what the tests before merging leave is what is asked for: 24 words a seed hold a record for each cut
+
+pub ends-some : (rows seeds : List ℕ) → 1 ≤ length (endsOf rows seeds)
+unfolding windows
+ends-some rows seeds =
+    ⊎-elim
+    (λ z. rw (none-ends rows seeds z, length-append) (omega arith))
+    (λ nz. rw (given-ends rows seeds nz) (strictly (omega arith) (λ (e : 0 ≡ length seeds). nz (sym e))))
+    (same-or-not (length seeds) 0)
+
+pub passed-seeded : {start end : ℕ} {rows seeds : List ℕ} {words : ℕ} → Passed start end rows seeds words → (n : ℕ) (work : List ℕ) → n ≡ length (endsOf rows seeds) → n * 24 ≤ length work → Seeded start rows seeds n work
+passed-seeded {rows = rows} {seeds = seeds} p n work e h = record { covered = p .covered; fits = p .fits; number = e; room = omega (arith, ends-some rows seeds) }

@@ -1,0 +1,8 @@
+-- `seeds::count_fits` meets its contract.
+-- Assumes nothing.
+use Rattle.gather.proofs.Admitted.{and-both}
+use Rattle.seeds.proofs.count_fits.Statement.{statement}
+use Rattle.seeds.proofs.count_fits.Tie as tie
+
+pub count-fits-spec : {M : Type 1} → statement M
+count-fits-spec = tie.close (tie.spec (λ c. and-both _ _))
