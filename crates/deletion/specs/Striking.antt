@@ -8,11 +8,20 @@ use lib.ListN.{length}
 use Rattle.model.specs.Tests.{pick, both}
 use Rattle.model.specs.Answers.{Answer, accepted, refused}
 use Rattle.planning.specs.Planning.{planOf, planOut, planWork}
+use Rattle.plan.specs.Plans.{valuesOf}
 use Rattle.deletion.specs.Reading.{bodyLimit, blockFits}
+use Rattle.deletion.specs.declared.Struck.{Struck}
+use Rattle.deletion.specs.declared.Struck.the-variants as struck
 
 -- no deletions: their number, 0, and no tag
 abbrev pub noDeletions : Answer
 noDeletions = accepted (0 ∷ [])
+
+-- tag, body length, segments after merging and offers of a plan
+unfoldable pub struckOf : Struck → Answer
+struckOf struck.Empty = noDeletions
+struckOf (struck.Made b) = accepted (valuesOf b)
+struckOf (struck.Refused k) = refused k
 
 -- whether there is anything to plan: test 9 is met, and there are deletions
 unfoldable pub strikes : ℕ → ℕ → List ℕ → Bool

@@ -1,5 +1,7 @@
 // The deletion view: the deleted rows of a block, as ordinals in [0, row count). Row count, section and body go together and are
 // checked by each call. A deletion's rank among the deletions is not an ordinal, and no call hands one out.
+use plan::Body;
+use plan::Planned;
 use rowset::Filled;
 ghost use mathlib.Core.Path.{_≡_};
 ghost use mathlib.Core.Bool.{true};
@@ -12,6 +14,8 @@ ghost use Rattle.model.specs.Answers.{over, Walked};
 ghost use Rattle.rowset.specs.Bodies.{accepts, names};
 ghost use Rattle.rowset.specs.Calls.{filledOf};
 ghost use Rattle.deletion.specs.Reading.{countedOf, containedOf, bodyLimit, blockFits, statedFit, codedNumber, sectionNumber, deletedOf, statedOf, sound, checkAnswer, containsAnswer, walkAnswer, walkLeft};
+ghost use Rattle.plan.specs.Plans.{plannedOf};
+ghost use Rattle.deletion.specs.Striking.{struckOf, strikeOf, strikeOut, strikeWork};
 
 // No deletions, or a body of this tag that stands beside it, with the count that is stated of it.
 pub enum Section {
@@ -29,6 +33,13 @@ pub enum Counted {
 pub enum Contained {
     Yes,
     No,
+    Refused(u8),
+}
+
+// No deletions, the plan of their body, or the number of the refusal.
+pub enum Struck {
+    Empty,
+    Made(Body),
     Refused(u8),
 }
 
@@ -251,4 +262,35 @@ pub fn walk_deletions(
         return Filled::Refused(refusal);
     }
     Filled::Written(write(rows, section, body, from, out))
+}
+
+// What planning answers, of deletions.
+fn of_planned(p: Planned) -> Struck
+    ensures { λ r. ⌜ struckOf r ≡ plannedOf p ⌝ }
+{
+    match p {
+        Planned::Made(b) => Struck::Made(b),
+        Planned::Refused(k) => Struck::Refused(k),
+    }
+}
+
+// The plan of the deleted ordinals. Where there are none, nothing is written, not even to the workspace.
+pub fn plan_deletions(
+    rows: u16,
+    limit: usize,
+    ordinals: &[u16],
+    work: &mut [u32],
+    out: &mut [u8],
+) -> Struck
+    ensures { λ r. ⌜ struckOf r ≡ strikeOf rows limit (now (ordinals .entry)) (length (now (work .entry))) (length (now (out .entry))) ⌝ }
+    ensures { λ _. ⌜ now (out .exit) ≡ strikeOut rows limit (now (ordinals .entry)) (length (now (work .entry))) (now (out .entry)) ⌝ }
+    ensures { λ _. ⌜ now (work .exit) ≡ strikeWork rows limit (now (ordinals .entry)) (now (work .entry)) ⌝ }
+{
+    if !block_fits(rows, limit) {
+        return Struck::Refused(9);
+    }
+    if ordinals.len() < 1 {
+        return Struck::Empty;
+    }
+    of_planned(plan::plan_ordinals(rows, ordinals, body_limit(rows), work, out))
 }
