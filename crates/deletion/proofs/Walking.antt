@@ -111,11 +111,11 @@ module _ (deleted : List ℕ) (k room : ℕ) {n : ℕ} (e : n ≡ min room (leng
   pub walk-size : n ≡ length (walkOf deleted k room)
   walk-size = rw (length-take, length-drop) e
 
-pub walked-far : (tag rows : ℕ) (body : List ℕ) {before out : List ℕ} {count k at n : ℕ} → count ≡ length (names tag rows body) → n ≡ min (length before) (count - k) → at ≡ k
-    → out ≡ over (walkOf (names tag rows body) at n) before → Walked (walkOf (names tag rows body) k (length before)) before out n
-walked-far tag rows body {before} {k = k} c e q w =
+pub walked-far : (tag rows : ℕ) (body : List ℕ) {before out : List ℕ} {count n : ℕ} (k : ℕ) → count ≡ length (names tag rows body) → n ≡ min (length before) (count - k)
+    → out ≡ over (walkOf (names tag rows body) k n) before → Walked (walkOf (names tag rows body) k (length before)) before out n
+walked-far tag rows body {before} k c e w =
     let far = rw c at e in
-    record { written = rw (q, walk-far (names tag rows body) k (length before) far) at w; number = walk-size (names tag rows body) k (length before) far }
+    record { written = rw (walk-far (names tag rows body) k (length before) far) at w; number = walk-size (names tag rows body) k (length before) far }
 
 -- a walk of no ordinals writes nothing
 pub walked-none : (before : List ℕ) (k : ℕ) → Walked (walkOf [] k (length before)) before before 0

@@ -1,5 +1,6 @@
 // The deletion view: the deleted rows of a block, as ordinals in [0, row count). Row count, section and body go together and are
 // checked by each call. A deletion's rank among the deletions is not an ordinal, and no call hands one out.
+use model::Place;
 use plan::Body;
 use plan::Planned;
 use rowset::Filled;
@@ -45,23 +46,11 @@ pub enum Struck {
 
 // ---- the tests
 
-fn wide(n: u16) -> u64
-    ensures { λ r. ⌜ (r ≡ n) × (r ≤ 65535) ⌝ }
-{
-    n as u64
-}
-
-fn room(n: u16) -> usize
-    ensures { λ r. ⌜ r ≡ n ⌝ }
-{
-    n as usize
-}
-
 // The bytes of a bitmap of all rows, with its header.
 fn body_limit(rows: u16) -> usize
     ensures { λ r. ⌜ r ≡ bodyLimit rows ⌝ }
 {
-    (4 + cost::bitmap_length(wide(rows))) as usize
+    (4 + cost::bitmap_length(rows as u64)) as usize
 }
 
 fn block_fits(rows: u16, limit: usize) -> bool
@@ -70,7 +59,7 @@ fn block_fits(rows: u16, limit: usize) -> bool
     if rows < 1 {
         return false;
     }
-    room(rows) <= limit
+    (rows as usize) <= limit
 }
 
 fn stated_fit(rows: u16, count: u16, size: usize) -> bool
@@ -130,11 +119,18 @@ fn stated(section: Section) -> u16
     }
 }
 
+// Whether the position of a place is a row: how many stand below it says nothing of that.
+fn is_row(q: Place) -> bool
+    ensures { λ r. ⌜ r ≡ q .present ⌝ }
+{
+    q.present
+}
+
 fn present(tag: u8, rows: u16, body: &[u8], ordinal: u16) -> bool
     requires { ⌜ accepts tag rows (now body) ≡ true ⌝ }
     ensures { λ r. ⌜ r ≡ has (names tag rows (now (body .entry))) ordinal ⌝ }
 {
-    rowset::place(tag, rows as u32, body, ordinal as u32).present
+    is_row(rowset::place(tag, rows as u32, body, ordinal as u32))
 }
 
 fn is_deleted(rows: u16, section: Section, body: &[u8], ordinal: u16) -> bool
@@ -204,7 +200,7 @@ fn write_coded(tag: u8, rows: u16, count: u16, body: &[u8], from: u16, out: &mut
     ensures { λ r. ⌜ Walked (walkOf (names tag rows (now (body .entry))) from (length (now (out .entry)))) (now (out .entry)) (now (out .exit)) r ⌝ }
 {
     let n = steps(count, from, out.len());
-    write_from(tag, rows, body, room(from), n, out);
+    write_from(tag, rows, body, from as usize, n, out);
     n
 }
 

@@ -3,7 +3,6 @@
 use borrow.Author.Tests.{lt-leb, le-leb}
 use Rattle.model.specs.Tests.{both}
 use Rattle.deletion.specs.Reading.{blockFits}
-use borrow.Author.Needs.{needs}
 use Rattle.deletion.proofs.block_fits.Statement.{statement}
 use Rattle.deletion.proofs.block_fits.Tie as tie
 
@@ -13,5 +12,4 @@ block-fits-spec =
     tie.close
     (tie.spec
     (λ c. rw (lt-leb 1 _ (c .if1 .taken)))
-    (λ c κs. search needs)
-    (λ c. rw (le-leb 1 _ (c .before .if1 .left)) (rw (c .room .ensures))))
+    (λ c. rw (le-leb 1 _ (c .if1 .left))))

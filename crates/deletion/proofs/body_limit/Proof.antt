@@ -12,6 +12,5 @@ body-limit-spec =
     tie.close
     (tie.spec
     (λ c κs. search needs)
-    (λ c κs. search needs)
     (λ c. search needs)
-    (λ c. rw (← c .before .wide .ensures .0) (omega (arith, c .bitmap-length .ensures))))
+    (λ c. omega (arith, c .bitmap-length .ensures)))

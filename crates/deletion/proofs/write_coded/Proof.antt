@@ -11,14 +11,13 @@ write-coded-spec =
     (tie.spec
     (λ c κs. search needs)
     (λ c κs. search needs)
-    (λ c κs. search needs)
     (λ c. search needs)
     (λ c.
     walked-far
     _
     _
     _
-    (c .before .before .before .before .before .before .before .before .pre .1)
-    (c .before .before .before .before .before .steps .ensures)
-    (c .before .before .before .before .room .ensures)
+    (c .before .before .before .before .before .before .before .args .from)
+    (c .before .before .before .before .before .before .before .pre .1)
+    (c .before .before .before .before .steps .ensures)
     (c .before .before .write-from .ensures)))
