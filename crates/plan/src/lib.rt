@@ -217,13 +217,13 @@ pub fn plan_ordinals(
     ensures { λ _. ⌜ now (out .exit) ≡ planOut 0 count (now (ordinals .entry)) [] limit (length (now (work .entry))) (now (out .entry)) ⌝ }
     ensures { λ _. ⌜ now (work .exit) ≡ planWork 0 count (now (ordinals .entry)) [] (now (work .entry)) ⌝ }
 {
-    let early = seeds::ordinals_early(count, ordinals, work.len());
-    if early.number != 0 {
-        return Planned::Refused(early.number);
+    let judged = seeds::ordinals_early(count, ordinals, work.len());
+    if judged.number != 0 {
+        return Planned::Refused(judged.number);
     }
-    let n = early.seeds;
-    let words = words_for(n);
-    let r = planned_ordinals(count, ordinals, n, limit, &mut work[0..words], out);
-    merge::clear(work, n);
+    let windows = judged.seeds;
+    let words = words_for(windows);
+    let r = planned_ordinals(count, ordinals, windows, limit, &mut work[0..words], out);
+    merge::clear(work, windows);
     r
 }
