@@ -2,6 +2,7 @@
 
 use crate::Refusal;
 use crate::ffi::Record;
+use std::fmt;
 
 /// More rows than this no row set has, nor a table more entries.
 const MOST: usize = 65_535;
@@ -26,7 +27,7 @@ const MOST: usize = 65_535;
 /// assert_eq!(plan.as_row_set().len(), gatherer.rows());
 /// # Ok::<(), pelisafu::Refusal>(())
 /// ```
-#[derive(Clone, Debug, Default)]
+#[derive(Clone, Default)]
 pub struct Gatherer {
     record: Record,
     table: Vec<u16>,
@@ -88,5 +89,15 @@ impl Gatherer {
     /// Forgets all rows and keeps the table's room.
     pub fn clear(&mut self) {
         self.record = Record::default();
+    }
+}
+
+impl fmt::Debug for Gatherer {
+    fn fmt(&self, f: &mut fmt::Formatter<'_>) -> fmt::Result {
+        f.debug_struct("Gatherer")
+            .field("rows", &self.rows())
+            .field("last_row", &self.last_row())
+            .field("ends", &self.ends())
+            .finish()
     }
 }

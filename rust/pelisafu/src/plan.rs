@@ -2,6 +2,7 @@
 
 use crate::ffi::{self, Planned};
 use crate::{Gatherer, Refusal, RowSet};
+use std::fmt;
 use std::ops::Range;
 
 /// A body is at most this long, and a row set has at most this many rows.
@@ -28,7 +29,7 @@ const WINDOW: u64 = 4096;
 /// assert_eq!((next.tag(), next.body().len()), (1, 0));
 /// # Ok::<(), pelisafu::Refusal>(())
 /// ```
-#[derive(Clone, Debug)]
+#[derive(Clone)]
 pub struct Planner {
     coverage: Range<u64>,
     limit: usize,
@@ -85,6 +86,17 @@ impl Planner {
         grow(&mut self.out, longest(rows.len(), limit));
         let told = ffi::plan_rows((start, end), rows, seeds, limit, &mut self.work, &mut self.out)?;
         Ok(Plan::new(told, (end - start) as u32, rows.len(), &self.out))
+    }
+}
+
+/// Without the stores, which can hold a million words.
+impl fmt::Debug for Planner {
+    fn fmt(&self, f: &mut fmt::Formatter<'_>) -> fmt::Result {
+        f.debug_struct("Planner")
+            .field("coverage", &self.coverage)
+            .field("limit", &self.limit)
+            .field("seeds", &self.seeds)
+            .finish_non_exhaustive()
     }
 }
 

@@ -1,12 +1,14 @@
 //! A range of ordinals that is walked from both ends, through a window that is filled by few large calls.
 
+use std::fmt;
+
 /// Rows of the first window. Each further one has twice as many, so that a short look at a set stays cheap and a long one
 /// does not have the body checked too often.
 const FIRST: usize = 64;
 const LARGEST: usize = 4096;
 
 /// The ordinals `front..back` that are still to come, and the values from ordinal `from` on that are held already.
-#[derive(Clone, Debug)]
+#[derive(Clone)]
 pub(crate) struct Window<T> {
     front: usize,
     back: usize,
@@ -68,6 +70,13 @@ impl<T: Copy + Default> Window<T> {
         self.held.resize(count, T::default());
         fill(u16::try_from(from).expect("a set has at most 65,535 rows"), &mut self.held);
         self.room = (2 * self.room).min(LARGEST);
+    }
+}
+
+/// The ordinals to come, without the values that are held.
+impl<T> fmt::Debug for Window<T> {
+    fn fmt(&self, f: &mut fmt::Formatter<'_>) -> fmt::Result {
+        write!(f, "{}..{}", self.front, self.back)
     }
 }
 
