@@ -1,30 +1,21 @@
 //! Sets of many shapes: planned with and without seeds, stored, read back, and every call compared with the list of positions.
 
+mod random;
+
 use pelisafu::{Gatherer, NO_RANK, Planner, RowSet, plan_ordinals};
+use random::Random;
 
-/// A small generator (xorshift), so that every run has the same sets.
-struct Random(u64);
-
-impl Random {
-    fn below(&mut self, n: u64) -> u64 {
-        self.0 ^= self.0 << 13;
-        self.0 ^= self.0 >> 7;
-        self.0 ^= self.0 << 17;
-        self.0 % n
+/// Runs and gaps up to the given lengths, from a start on.
+fn some_rows(random: &mut Random, start: u64, count: usize, run: u64, gap: u64) -> Vec<u64> {
+    let (mut rows, mut next) = (Vec::new(), start);
+    while rows.len() < count {
+        next += random.below(gap);
+        let end = next + 1 + random.below(run);
+        rows.extend(next..end);
+        next = end + 1;
     }
-
-    /// Runs and gaps up to the given lengths, from a start on.
-    fn rows(&mut self, start: u64, count: usize, run: u64, gap: u64) -> Vec<u64> {
-        let (mut rows, mut next) = (Vec::new(), start);
-        while rows.len() < count {
-            next += self.below(gap);
-            let end = next + 1 + self.below(run);
-            rows.extend(next..end);
-            next = end + 1;
-        }
-        rows.truncate(count);
-        rows
-    }
+    rows.truncate(count);
+    rows
 }
 
 const RUNS_AND_GAPS: [(u64, u64); 6] = [(1, 2), (1, 40), (2, 3), (300, 3), (50, 500), (1, 30_000)];
@@ -70,7 +61,7 @@ fn sets_come_back() {
         let (run, gap) = RUNS_AND_GAPS[round % RUNS_AND_GAPS.len()];
         let count = 1 + random.below(if round < 12 { 9_000 } else { 150 }) as usize;
         let start = if round % 5 == 0 { u64::MAX - (1 << 31) } else { random.below(1 << 40) };
-        let rows = random.rows(start, count, run, gap);
+        let rows = some_rows(&mut random, start, count, run, gap);
         let end = rows[count - 1] + 1 + random.below(100);
         let positions: Vec<u32> = rows.iter().map(|row| (row - start) as u32).collect();
 
@@ -107,7 +98,7 @@ fn gathered(random: &mut Random, mut rows: &[u64]) -> Gatherer {
 fn ordinals_are_planned_as_rows_are() {
     let mut random = Random(77);
     for (run, gap) in RUNS_AND_GAPS.iter().copied().take(5) {
-        let rows = random.rows(0, 60, run, gap);
+        let rows = some_rows(&mut random, 0, 60, run, gap);
         let ordinals: Vec<u16> = rows.iter().map(|row| *row as u16).collect();
         let plan = plan_ordinals(65_535, &ordinals, 65_535).unwrap();
         assert_eq!(plan, Planner::new(0..65_535).plan(&rows).unwrap());
