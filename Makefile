@@ -30,4 +30,4 @@ bench:
 	@if [ -x dist/lister ]; then tests/listing/bench; fi
 
 clean:
-	rm -rf target dist differential/target
+	rm -rf target dist differential/target rust/pelisafu/target
