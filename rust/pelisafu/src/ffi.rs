@@ -5,6 +5,8 @@
 //! where it is empty: its pointer is then dangling, but aligned and not null, and nothing is read there. No call keeps
 //! a pointer, unwinds, or has a state of its own, so all may run on any number of threads.
 
+pub(crate) mod deletions;
+
 use crate::Refusal;
 use crate::row_set::Segment;
 

@@ -1,6 +1,7 @@
 #![doc = include_str!("../README.md")]
 #![deny(missing_docs, unsafe_code)]
 
+mod deletions;
 #[allow(unsafe_code)]
 mod ffi;
 mod gather;
@@ -10,6 +11,7 @@ mod refusal;
 mod row_set;
 mod window;
 
+pub use deletions::{DeletedOrdinals, DeletionPlan, Deletions, Section, plan_deletions};
 pub use gather::Gatherer;
 pub use plan::{Plan, Planner, plan_ordinals};
 pub use positions::Positions;

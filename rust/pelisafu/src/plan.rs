@@ -118,7 +118,7 @@ pub fn plan_ordinals(row_count: u16, ordinals: &[u16], limit: usize) -> Result<P
 }
 
 /// Ordinals fall in at most 16 windows.
-const ORDINAL_WORDS: usize = WORDS * 16;
+pub(crate) const ORDINAL_WORDS: usize = WORDS * 16;
 
 /// How many windows rising rows fall in.
 fn windows(rows: &[u64]) -> usize {
@@ -126,7 +126,7 @@ fn windows(rows: &[u64]) -> usize {
 }
 
 /// The most bytes that a body of so many rows can have under a limit: no body is longer than a list of four-byte numbers.
-fn longest(rows: usize, limit: usize) -> usize {
+pub(crate) fn longest(rows: usize, limit: usize) -> usize {
     rows.saturating_mul(4).min(limit).min(MOST)
 }
 
@@ -150,7 +150,7 @@ pub struct Plan {
 }
 
 impl Plan {
-    fn new(told: Planned, span: u32, rows: usize, out: &[u8]) -> Self {
+    pub(crate) fn new(told: Planned, span: u32, rows: usize, out: &[u8]) -> Self {
         let Planned { tag, length, segments, offers } = told;
         let count = u16::try_from(rows).expect("a plan has at most 65,535 rows");
         Self { tag, span, count, body: out[..length.into()].to_vec(), segments, offers }
@@ -164,6 +164,11 @@ impl Plan {
     /// The length of the coverage.
     pub fn span(&self) -> u32 {
         self.span
+    }
+
+    /// How many rows were planned.
+    pub(crate) fn count(&self) -> u16 {
+        self.count
     }
 
     /// The bytes, at most 65,535.

@@ -6,7 +6,8 @@ use std::fmt;
 /// Why a call was refused. A refused call has changed nothing that its caller can see.
 ///
 /// The numbers are those of the C interface. Where several refusals apply, the one that is tested first is
-/// answered: planning tests 1 to 7 in that order, gathering 12, 3, 2, 11, reading 8 and then 7.
+/// answered: planning tests 1 to 7 in that order, gathering 12, 3, 2, 11, reading 8 and then 7, deletions 9,
+/// then planning's or 8, then 10.
 ///
 /// ```
 /// use pelisafu::{Refusal, RowSet};
