@@ -23,10 +23,11 @@ mod pelisafu;
 mod plain;
 mod random;
 mod reading;
+mod record;
 
 use std::process::ExitCode;
 
-const USAGE: &str = "differential examples|merging|reading|largest|deletions|pelisafu|bench";
+const USAGE: &str = "differential examples|merging|reading|largest|deletions|pelisafu|bench|record";
 
 fn main() -> ExitCode {
     index::original::hush_caught_panics();
@@ -40,6 +41,7 @@ fn main() -> ExitCode {
         #[cfg(pelisafu)]
         "pelisafu" => pelisafu::compare(),
         "bench" => bench::table(),
+        "record" => record::write(),
         _ => Err(format!("usage: {USAGE}")),
     };
     match verdict {
