@@ -1,4 +1,4 @@
-# make        prove every layer and build what a host needs, as far as it exists yet
+# make        prove every layer and build what a host needs
 # make test   all checking; the last line is rt's own 'N passed, 0 failed'
 # make bench  time the original and, where it exists, Pelisafu beside it
 .PHONY: all test bench clean
@@ -30,4 +30,4 @@ bench:
 	@if [ -x dist/lister ]; then tests/listing/bench; fi
 
 clean:
-	rm -rf target dist differential/target
+	rm -rf target dist differential/target rust/pelisafu/target
