@@ -51,7 +51,7 @@ unfolding pick
 pick-most true a b m p q = p
 pick-most false a b m p q = q
 
-early-most : (start end : ℕ) (rows seeds : List ℕ) (words : ℕ) → earlyNumber start end rows seeds words ≤ 5
+pub early-most : (start end : ℕ) (rows seeds : List ℕ) (words : ℕ) → earlyNumber start end rows seeds words ≤ 5
 unfolding earlyNumber
 early-most start end rows seeds words =
     pick-most (coverageFits start end) _ 1 5

@@ -64,7 +64,7 @@ module _ (start end : ℕ) (rows seeds : List ℕ) (limit words room : ℕ) (ok 
 
 -- ---- the answer and the output
 
-answered-number : (n : ℕ) (values : List ℕ) → answered n values .number ≡ n
+pub answered-number : (n : ℕ) (values : List ℕ) → answered n values .number ≡ n
 unfolding answered
 answered-number n values =
     ⊎-elim

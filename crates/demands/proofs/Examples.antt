@@ -1,26 +1,30 @@
--- Document 01's examples in one table, each compared with what the definitions give, by computation.
+-- Document 01's starred examples in one table under one statement, each compared with what the definitions give, by computation. The few
+-- others of that list that compute stand with them.
 -- Assumes nothing.
 use mathlib.Core.Path.{_≡_, refl}
 use mathlib.Core.Bool.{Bool, true, false}
 use mathlib.Core.List.{List, [], _∷_, _++_}
-use Prim.Native.Nat.{ℕ, _+_, _*_}
+use Prim.Native.Nat.{ℕ, _+_, _-_, _*_}
 use lib.Dec.{eqb}
-use lib.ListN.{length}
+use lib.ListN.{length, getD}
 use Rattle.fields.specs.Le.{le, digits}
 use Rattle.model.specs.Tests.{both, pick, all, tabulate, flat, total}
-use Rattle.model.specs.Lists.{counted, shift, range, below, lower, complement, onto, runsOf}
+use Rattle.model.specs.Lists.{counted, has, shift, range, below, lower, complement, onto, runsOf}
 use Rattle.model.specs.Answers.{Answer, accepted, refused}
-use Rattle.word.specs.Bits.{numFrom}
+use Rattle.word.specs.Bits.{named, bitsFrom, numFrom}
 use Rattle.search.specs.Search.{entry}
-use Rattle.lists.specs.Lists.{denseAccepts, listLayout}
-use Rattle.missing.specs.Missing.{missingLayout}
+use Rattle.lists.specs.Lists.{denseAccepts, listAccepts, listNames, listLayout, risesBelow, climbs}
+use Rattle.missing.specs.Missing.{missingAccepts, missingNames, missingLayout}
 use Rattle.runs.specs.Runs.{runsBytes, runsLayout, runsAccepts, runsNames, runCount, runsStand, runFits, mostOf}
 use Rattle.runs.specs.Runs as runs-specs
-use Rattle.bitmap.specs.Body.{bitmapLayout}
+use Rattle.bitmap.specs.Body.{bitmapAccepts, bitmapLayout, exact}
+use Rattle.directory.specs.Directory.{directoryAccepts, segmentsFit, segmentFits, isLocal, entryOf, partOf, endBefore, namesOf, pieceOf}
+use Rattle.directory.specs.Directory as directory-specs
 use Rattle.directory.specs.Layout.{entryLayout, directoryLayout}
 use Rattle.forms.specs.Forms.{byTag, localAccepts, localNames, localLayout}
-use Rattle.single.specs.Single.{fit, viewOf, fieldsOk, namedIn, endsOk, viewAccepts, singleAccepts, singleNames}
+use Rattle.single.specs.Single.{fit, viewOf, bitmapView, trimmedMissingView, fieldsOk, namedIn, endsOk, viewAccepts, singleAccepts, singleNames}
 use Rattle.single.specs.Layout.{firstOf, extentOf, plainLayout, trimmedLayout, singleLayout}
+use Rattle.segmented.specs.Segmented.{segmentedAccepts, segmentedNames, partAccepts, partNames}
 use Rattle.rowset.specs.Bodies.{accepts, names}
 use Rattle.rowset.specs.Calls.{asked, validateOf}
 use Rattle.cost.specs.Sizes.{binary, depthOf}
@@ -33,15 +37,15 @@ use Rattle.gather.specs.Gather as gather-specs
 use Rattle.gather.specs.Seeds.{startOf, seedAt, seedsFit, cuts, windows}
 use Rattle.merge.specs.Rule.{without, cutsFrom, oneIf, contains, pairs, pairsWith, better, best, afterJoins, laterOffers, merged, offers}
 use Rattle.merge.specs.Pairs.{payload, admits, saves, rowsAdmitted, rowsSaving}
 use Rattle.planning.specs.Refusals.{coverageFits, countFits, rowsFit, givenFit, endsOf, roomFits, earlyNumber}
 use Rattle.planning.specs.Segments.{part, between, cutsLeft, offersFor, pieces, segmentsOf, statsEach}
 use Rattle.planning.specs.Bodies.{payloads, larger, deepest, widest, segmentedForm, segmentAt, tagOf, payloadOf, entriesOf, payloadAt, segmentedLayout, choiceKey, chosen, formFor, layoutBy, bodyOf}
 use Rattle.planning.specs.Planning.{plannedSegments, plannedOffers, plannedForm, plannedBody, lateNumber, plannedValues, answered, planNumber, planOf}
 
 -- ---- a case, and whether it is as the definitions have it
 
 data Case : Type 0 where
-  -- planned without seeds: start, end, rows; tag, body length, segments, offers; the body
+  -- planned without seeds, and read back: start, end, rows; tag, body length, segments, offers; the body
   planned : ℕ → ℕ → List ℕ → List ℕ → List ℕ → Case
   -- a page gathered into an empty table of two: its rows; the answer; the table
   gathered : List ℕ → Answer → List ℕ → Case
@@ -60,10 +64,12 @@ sameAnswer a b = both (eqb (a .number) (b .number)) (same (a .values) (b .values
 nothing : Gatherer
 nothing = record { entries = 0; rows = 0; first = 0; last = 0 }
 
--- a plan has the largest limit and output, and a workspace for a seed a row
+-- a plan has the largest limit and output, and a workspace for a seed a row. Its body is read over the span: accepted with as many rows, and
+-- naming their positions
 holds : Case → Bool
 holds (planned start end rows values body) =
-    both (sameAnswer (planOf start end rows [] 65535 (24 * length rows) 65535) (accepted values)) (same (plannedBody start end rows []) body)
+    both (both (sameAnswer (planOf start end rows [] 65535 (24 * length rows) 65535) (accepted values)) (same (plannedBody start end rows []) body))
+    (both (sameAnswer (validateOf (getD values 0 0) (end - start) body) (accepted (length rows ∷ []))) (same (names (getD values 0 0) (end - start) body) (positionsOf start rows)))
 holds (gathered rows answer table) = both (sameAnswer (pageAnswer nothing 2 rows) answer) (same (pageTable nothing (0 ∷ 0 ∷ []) rows) table)
 holds (validated tag span body answer) = sameAnswer (validateOf tag span body) answer
 
@@ -113,6 +119,6 @@ cases =
     ∷ validated 10 5 [] (refused 8)
     ∷ []
 
-worked : allHold cases ≡ true
-unfolding cases nothing allHold holds sameAnswer same digits both pick all tabulate flat total range below lower complement onto runsOf numFrom listLayout missingLayout runsBytes runsLayout bitmapLayout entryLayout directoryLayout byTag localLayout firstOf extentOf plainLayout trimmedLayout singleLayout binary depthOf statsOf joined positionsOf itemsForm bitmapForm denseForm orderOf lex keyOf lesser least localOffers localForm runsForm plainOffers trimmedOffers wholeForm upAt rises startOf seedAt seedsFit cuts windows without cutsFrom oneIf contains pairs pairsWith better best afterJoins laterOffers merged offers payload admits saves rowsAdmitted rowsSaving coverageFits countFits rowsFit givenFit endsOf roomFits earlyNumber part between cutsLeft offersFor pieces segmentsOf statsEach payloads larger deepest widest segmentedForm segmentAt tagOf payloadOf entriesOf payloadAt segmentedLayout choiceKey chosen formFor layoutBy bodyOf plannedSegments plannedOffers plannedForm plannedBody lateNumber plannedValues answered planNumber planOf impossible above early late orElse oneSeed joins added addedTo addedAll addedAllTo seeded paged pagedTo someNumber pageNumber pageAnswer pageTable gather-specs.answered kept validateOf asked accepts names singleAccepts singleNames fieldsOk viewOf viewAccepts namedIn endsOk localAccepts localNames counted shift fit denseAccepts runsAccepts runsNames runCount runsStand runFits runs-specs.fits runs-specs.least mostOf entry le
-worked = refl
+examples-hold : allHold cases ≡ true
+unfolding cases nothing allHold holds sameAnswer same digits both pick all tabulate flat total range below lower complement onto runsOf numFrom listLayout missingLayout runsBytes runsLayout bitmapLayout entryLayout directoryLayout byTag localLayout firstOf extentOf plainLayout trimmedLayout singleLayout binary depthOf statsOf joined positionsOf itemsForm bitmapForm denseForm orderOf lex keyOf lesser least localOffers localForm runsForm plainOffers trimmedOffers wholeForm upAt rises startOf seedAt seedsFit cuts windows without cutsFrom oneIf contains pairs pairsWith better best afterJoins laterOffers merged offers payload admits saves rowsAdmitted rowsSaving coverageFits countFits rowsFit givenFit endsOf roomFits earlyNumber part between cutsLeft offersFor pieces segmentsOf statsEach payloads larger deepest widest segmentedForm segmentAt tagOf payloadOf entriesOf payloadAt segmentedLayout choiceKey chosen formFor layoutBy bodyOf plannedSegments plannedOffers plannedForm plannedBody lateNumber plannedValues answered planNumber planOf impossible above early late orElse oneSeed joins added addedTo addedAll addedAllTo seeded paged pagedTo someNumber pageNumber pageAnswer pageTable gather-specs.answered kept validateOf asked accepts names singleAccepts singleNames fieldsOk viewOf viewAccepts namedIn endsOk localAccepts localNames counted shift fit denseAccepts runsAccepts runsNames runCount runsStand runFits runs-specs.fits runs-specs.least mostOf entry le has listAccepts listNames risesBelow climbs missingAccepts missingNames bitmapView trimmedMissingView bitmapAccepts exact bitsFrom named segmentedAccepts segmentedNames partAccepts partNames directoryAccepts segmentsFit segmentFits directory-specs.fits isLocal entryOf partOf endBefore namesOf pieceOf
+examples-hold = refl
