@@ -26,7 +26,8 @@ mod reading;
 
 use std::process::ExitCode;
 
-const USAGE: &str = "differential examples|merging|reading|largest|deletions|pelisafu|bench";
+const USAGE: &str =
+    "differential examples|merging|reading|largest|deletions|pelisafu|guarded|bench";
 
 fn main() -> ExitCode {
     index::original::hush_caught_panics();
@@ -39,6 +40,8 @@ fn main() -> ExitCode {
         "deletions" => deletions::compare(),
         #[cfg(pelisafu)]
         "pelisafu" => pelisafu::compare(),
+        #[cfg(pelisafu)]
+        "guarded" => pelisafu::compare_guarded(),
         "bench" => bench::table(),
         _ => Err(format!("usage: {USAGE}")),
     };

@@ -2,9 +2,12 @@
 
 pub(crate) mod calls;
 mod gathering;
+mod guarded;
+mod memory;
 mod reading;
 
 use crate::case::Verdict;
+pub(crate) use guarded::compare as compare_guarded;
 
 pub(crate) fn compare() -> Verdict {
     let reading = reading::compare()?;

@@ -1,5 +1,7 @@
 //! The calls of the static library, as include/pelisafu.h declares them, each behind a safe one.
 
+use super::memory::{Lent, LentMut};
+
 #[derive(Clone, Copy)]
 #[repr(C)]
 struct Answer {
@@ -129,43 +131,47 @@ impl Body<'_> {
     #[inline]
     pub(crate) fn validate(self) -> Told<u64> {
         let Self { tag, span, bytes } = self;
-        unsafe { pelisafu_validate(tag, span, bytes.as_ptr(), bytes.len()) }.told()
+        let body = Lent::new(bytes);
+        unsafe { pelisafu_validate(tag, span, body.pointer(), bytes.len()) }.told()
     }
 
     #[inline]
     pub(crate) fn rank(self, position: u32) -> Told<u64> {
         let Self { tag, span, bytes } = self;
-        unsafe { pelisafu_rank(tag, span, bytes.as_ptr(), bytes.len(), position) }.told()
+        let body = Lent::new(bytes);
+        unsafe { pelisafu_rank(tag, span, body.pointer(), bytes.len(), position) }.told()
     }
 
     #[inline]
     pub(crate) fn ranks(self, positions: &[u32], out: &mut [u32]) -> Told<u64> {
         let Self { tag, span, bytes } = self;
-        let (asked, count) = (positions.as_ptr(), positions.len());
-        let (room, length) = (out.as_mut_ptr(), out.len());
-        unsafe {
-            pelisafu_ranks(tag, span, bytes.as_ptr(), bytes.len(), asked, count, room, length)
-        }
-        .told()
+        let (count, room) = (positions.len(), out.len());
+        let (body, asked, mut out) = (Lent::new(bytes), Lent::new(positions), LentMut::new(out));
+        let (body, asked, out) = (body.pointer(), asked.pointer(), out.pointer());
+        unsafe { pelisafu_ranks(tag, span, body, bytes.len(), asked, count, out, room) }.told()
     }
 
     #[inline]
     pub(crate) fn select(self, ordinal: u16) -> Told<u64> {
         let Self { tag, span, bytes } = self;
-        unsafe { pelisafu_select(tag, span, bytes.as_ptr(), bytes.len(), ordinal) }.told()
+        let body = Lent::new(bytes);
+        unsafe { pelisafu_select(tag, span, body.pointer(), bytes.len(), ordinal) }.told()
     }
 
     #[inline]
     pub(crate) fn walk(self, from: u16, out: &mut [u32]) -> Told<u64> {
         let Self { tag, span, bytes } = self;
-        let (room, length) = (out.as_mut_ptr(), out.len());
-        unsafe { pelisafu_walk(tag, span, bytes.as_ptr(), bytes.len(), from, room, length) }.told()
+        let room = out.len();
+        let (body, mut out) = (Lent::new(bytes), LentMut::new(out));
+        let (body, out) = (body.pointer(), out.pointer());
+        unsafe { pelisafu_walk(tag, span, body, bytes.len(), from, out, room) }.told()
     }
 
     #[inline]
     pub(crate) fn segment(self, i: usize) -> Told<Entry> {
         let Self { tag, span, bytes } = self;
-        let part = unsafe { pelisafu_segment(tag, span, bytes.as_ptr(), bytes.len(), i) };
+        let body = Lent::new(bytes);
+        let part = unsafe { pelisafu_segment(tag, span, body.pointer(), bytes.len(), i) };
         let Part { start, span, count, ordinal, offset, length, tag, number, found } = part;
         told(number, found, (start, span, count, ordinal, offset, length, tag))
     }
@@ -173,8 +179,10 @@ impl Body<'_> {
     #[inline]
     pub(crate) fn segments(self, table: &mut [Record]) -> Told<u64> {
         let Self { tag, span, bytes } = self;
-        let (room, length) = (table.as_mut_ptr(), table.len());
-        unsafe { pelisafu_segments(tag, span, bytes.as_ptr(), bytes.len(), room, length) }.told()
+        let room = table.len();
+        let (body, mut table) = (Lent::new(bytes), LentMut::new(table));
+        let (body, table) = (body.pointer(), table.pointer());
+        unsafe { pelisafu_segments(tag, span, body, bytes.len(), table, room) }.told()
     }
 }
 
@@ -193,11 +201,14 @@ impl Gathering {
     }
 
     pub(crate) fn row(self, table: &mut [u16], row: u64) -> Result<Self, u8> {
-        unsafe { pelisafu_gather_row(self, table.as_mut_ptr(), table.len(), row) }.told()
+        let room = table.len();
+        let mut table = LentMut::new(table);
+        unsafe { pelisafu_gather_row(self, table.pointer(), room, row) }.told()
     }
 
     pub(crate) fn page(self, table: &mut [u16], rows: &[u64]) -> Result<Self, u8> {
-        let (page, count) = (rows.as_ptr(), rows.len());
-        unsafe { pelisafu_gather_page(self, table.as_mut_ptr(), table.len(), page, count) }.told()
+        let (room, count) = (table.len(), rows.len());
+        let (mut table, rows) = (LentMut::new(table), Lent::new(rows));
+        unsafe { pelisafu_gather_page(self, table.pointer(), room, rows.pointer(), count) }.told()
     }
 }
