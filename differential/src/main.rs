@@ -26,8 +26,8 @@ mod reading;
 
 use std::process::ExitCode;
 
-const USAGE: &str =
-    "differential examples|merging|reading|largest|deletions|pelisafu|guarded|bench";
+const USAGE: &str = "differential examples|merging|reading|largest|deletions|pelisafu|planning|\
+                     guarded|bench";
 
 fn main() -> ExitCode {
     index::original::hush_caught_panics();
@@ -40,6 +40,8 @@ fn main() -> ExitCode {
         "deletions" => deletions::compare(),
         #[cfg(pelisafu)]
         "pelisafu" => pelisafu::compare(),
+        #[cfg(pelisafu)]
+        "planning" => pelisafu::compare_planning(),
         #[cfg(pelisafu)]
         "guarded" => pelisafu::compare_guarded(),
         "bench" => bench::table(),

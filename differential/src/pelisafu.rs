@@ -1,9 +1,11 @@
-//! Pelisafu's own code, from its static library, against the original: every answer of reading, and gathering.
+//! Pelisafu's own code, from its static library, against the original: every answer of reading, gathering and planning.
 
 pub(crate) mod calls;
 mod gathering;
 mod guarded;
 mod memory;
+mod planning;
+pub(crate) mod plans;
 mod reading;
 
 use crate::case::Verdict;
@@ -13,4 +15,8 @@ pub(crate) fn compare() -> Verdict {
     let reading = reading::compare()?;
     let gathering = gathering::compare()?;
     Ok(format!("pelisafu: {reading}; {gathering}"))
+}
+
+pub(crate) fn compare_planning() -> Verdict {
+    planning::compare()
 }

@@ -111,6 +111,17 @@ pub(crate) fn plan(case: &Case) -> Result<Plan, No> {
     })
 }
 
+/// Planning of ordinals: tag, body and offers.
+#[cfg(pelisafu)]
+pub(crate) fn plan_ordinals(row_count: u16, ordinals: &[u16]) -> Result<(u8, Vec<u8>, u64), No> {
+    asserting(|| {
+        let before = pushes();
+        let encoded = EncodedIdentitySet::plan_ordinals(row_count, ordinals, usize::MAX);
+        let encoded = encoded.map_err(|_| No::Capacity)?;
+        Ok((encoded.codec(), encoded.body().to_vec(), pushes() - before))
+    })
+}
+
 /// A body that the original has accepted.
 #[derive(Clone, Copy)]
 pub(crate) struct Accepted<'a>(IdentitySetRef<'a>);

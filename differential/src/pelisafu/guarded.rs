@@ -2,7 +2,7 @@
 //! touched. One byte read or written outside ends the run.
 
 use super::memory::{Place, set_place};
-use super::{gathering, reading};
+use super::{gathering, planning, reading};
 use crate::case::Verdict;
 use crate::random::Random;
 use crate::reading::for_each;
@@ -25,6 +25,8 @@ pub(crate) fn compare() -> Verdict {
 
 fn compare_part() -> Result<String, String> {
     let mut random = Random::new(13);
+    let mut plans = planning::Tally::default();
+    planning::compare_part(&mut random, &mut plans)?;
     let mut bodies = reading::Tally::default();
     let mut turn = 0;
     for_each(&mut |body| {
@@ -32,5 +34,5 @@ fn compare_part() -> Result<String, String> {
         if turn % EVERY == 0 { reading::compare_body(body, &mut bodies) } else { Ok(()) }
     })?;
     let gathered = gathering::compare_rounds(&mut random, 10, 5_000)?;
-    Ok(format!("{}; {gathered}", bodies.summary()))
+    Ok(format!("{}; {}; {gathered}", plans.summary(), bodies.summary()))
 }
