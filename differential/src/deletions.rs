@@ -42,6 +42,18 @@ pub(crate) fn compare() -> Verdict {
     ))
 }
 
+/// Random deletions of one random row count.
+#[cfg(pelisafu)]
+pub(crate) fn compare_drawn(random: &mut Random) -> Result<(), String> {
+    let most = [10, 300, 5_000][random.below(3) as usize];
+    let row_count = 1 + random.below(most) as u16;
+    for ordinals in ordinal_sets(random, row_count) {
+        let limit = usize::from(row_count) + random.below(2) as usize;
+        compare_set(row_count, limit, &ordinals, &mut Tally::default())?;
+    }
+    Ok(())
+}
+
 /// Deletions of every density, none at all, and some that no planner may take.
 fn ordinal_sets(random: &mut Random, row_count: u16) -> Vec<Vec<u16>> {
     let mut sets = vec![

@@ -27,7 +27,7 @@ mod reading;
 use std::process::ExitCode;
 
 const USAGE: &str = "differential examples|merging|reading|largest|deletions|pelisafu|planning|\
-                     guarded|bench";
+                     guarded|bench, or differential soak SECONDS SEED";
 
 fn main() -> ExitCode {
     index::original::hush_caught_panics();
@@ -44,6 +44,8 @@ fn main() -> ExitCode {
         "planning" => pelisafu::compare_planning(),
         #[cfg(pelisafu)]
         "guarded" => pelisafu::compare_guarded(),
+        #[cfg(pelisafu)]
+        "soak" => soak(),
         "bench" => bench::table(),
         _ => Err(format!("usage: {USAGE}")),
     };
@@ -56,5 +58,15 @@ fn main() -> ExitCode {
             eprintln!("{name}: {difference}");
             ExitCode::FAILURE
         }
+    }
+}
+
+/// Runs for as many seconds as the second argument says, from the seed that the third one names.
+#[cfg(pelisafu)]
+fn soak() -> case::Verdict {
+    let number = |place| std::env::args().nth(place).and_then(|n| n.parse().ok());
+    match (number(2), number(3)) {
+        (Some(seconds), Some(seed)) => pelisafu::soak(seconds, seed),
+        _ => Err(format!("usage: {USAGE}")),
     }
 }

@@ -7,9 +7,11 @@ mod memory;
 mod planning;
 pub(crate) mod plans;
 mod reading;
+mod soak;
 
 use crate::case::Verdict;
 pub(crate) use guarded::compare as compare_guarded;
+pub(crate) use soak::soak;
 
 pub(crate) fn compare() -> Verdict {
     let reading = reading::compare()?;

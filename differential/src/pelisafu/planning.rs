@@ -78,6 +78,13 @@ pub(super) fn compare_part(random: &mut Random, tally: &mut Tally) -> Result<(),
     Ok(())
 }
 
+/// Random requests, good and damaged: one round of them.
+pub(super) fn compare_drawn(random: &mut Random, tally: &mut Tally) -> Result<(), String> {
+    let most = if random.one_in(200) { 65_535 } else { 300 };
+    drawn::compare(random, most, tally)?;
+    damage::compare(random, tally)
+}
+
 impl Request {
     /// Seed ends as the original gathers them.
     fn gathered(case: Case) -> Self {

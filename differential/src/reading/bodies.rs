@@ -6,6 +6,8 @@ use crate::plain::bodies::{Part, payload, segmented, whole};
 use crate::plain::costs::{Cost, Stats, whole_forms};
 use crate::plain::{BITMAP, DENSE, LIST16, MISSING, RUNS16, RUNS32, SEGMENTED};
 use crate::random::Random;
+#[cfg(pelisafu)]
+use crate::random::{SHAPES, case};
 
 /// Bodies above this are left to `long`.
 const LONGEST: u64 = 1 << 20;
@@ -26,6 +28,19 @@ pub(super) fn for_each(
         }
     }
     Ok(())
+}
+
+/// Bodies of one random row set in every form that can hold it.
+#[cfg(pelisafu)]
+pub(super) fn drawn(random: &mut Random) -> Vec<Reading> {
+    let shape = SHAPES[random.below(SHAPES.len() as u64) as usize];
+    let count = 1 + random.below(120) as usize;
+    let drawn = case(random, shape, count);
+    let positions: Vec<u64> = drawn.rows.iter().map(|row| row - drawn.start).collect();
+    let span = (drawn.end - drawn.start) as u32;
+    let mut all = whole_bodies(&positions, span);
+    all.extend([1, 7, 300].into_iter().filter_map(|rows| segmented_body(&positions, span, rows)));
+    all
 }
 
 /// Row sets that lean on the ends of a span.
