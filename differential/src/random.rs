@@ -66,6 +66,7 @@ impl Shape {
             Self::Clusters => 1 + random.below(3),
             Self::Edges if random.one_in(3) => EDGES[random.below(10) as usize],
             Self::Edges => 1,
+            Self::NearlyFull if random.one_in(120) => 3 + random.below(13),
             Self::NearlyFull if random.one_in(40) => 2,
             Self::NearlyFull => 1,
             Self::Runs if random.one_in(10) => 1 + random.below(600),

@@ -10,7 +10,7 @@ const PLAIN_SEEDS: usize = 600;
 
 /// What is known of a request before memory and limit are looked at.
 pub(super) struct Known {
-    /// Seeds, given or generated; 0 where one of tests 1 to 4 refuses.
+    /// Seeds, given or generated. Where one of tests 1 to 4 refuses, seeds for which there would be memory.
     pub(super) seeds: usize,
     /// The plan, or the number of the refusal: 1 to 4, or 6 for a body longer than 65,535 bytes.
     pub(super) plan: Result<Plan, u8>,
@@ -21,7 +21,7 @@ pub(super) fn known(request: &Request) -> Result<Known, String> {
     let case = &request.case;
     let ends = match plain::planning::seed_ends(case, &request.seeds) {
         Ok(ends) => ends,
-        Err(number) => return refused(case, number),
+        Err(number) => return refused(request, number),
     };
     let theirs = original::plan(case);
     if ends.len() <= PLAIN_SEEDS {
@@ -50,15 +50,18 @@ pub(super) fn known(request: &Request) -> Result<Known, String> {
 }
 
 /// The original refuses by the same number, but for test 4: no gathering of its own comes to a bad table.
-fn refused(case: &Case, number: u8) -> Result<Known, String> {
-    let bare = Case { gathering: Vec::new(), ..case.clone() };
+fn refused(request: &Request, number: u8) -> Result<Known, String> {
+    let bare = Case { gathering: Vec::new(), ..request.case.clone() };
     match original::plan(&bare) {
         _ if number == 4 => {}
         Err(no) if no.is(number) => {}
         theirs => return Err(format!("refusal {number}, but the original plans {theirs:?}")),
     }
-    Ok(Known { seeds: 0, plan: Err(number) })
+    Ok(Known { seeds: request.seeds.len().max(3), plan: Err(number) })
 }
+
+/// How long an output is taken to be needed where no body is known.
+const SOME_BYTES: usize = 40;
 
 /// So many more than needed, or fewer, and never below none.
 fn beside(needed: usize, more: i64) -> usize {
@@ -69,7 +72,7 @@ impl Known {
     /// What a call with that lending must come to, by document 01's tests in their order.
     pub(super) fn right(&self, lending: &Lending) -> Right {
         let needed = 24 * self.seeds;
-        let length = self.plan.as_ref().map_or(0, |plan| plan.body.len());
+        let length = self.plan.as_ref().map_or(SOME_BYTES, |plan| plan.body.len());
         let limit = lending.limit.map_or(usize::MAX, |more| beside(length, more));
         let mut work = words(beside(needed, lending.work));
         let mut out = bytes(beside(length, lending.out));

@@ -3,9 +3,11 @@
 use super::known::known;
 use super::{Lending, Request, Tally, compare_call, read_back};
 use crate::case::Case;
+use std::time::{Duration, Instant};
 
-/// How many smaller requests are tried.
+/// How many smaller requests are tried, and for how long.
 const TRIES: usize = 3_000;
+const TIME: Duration = Duration::from_secs(15);
 
 /// What differs on one request with one lending.
 fn difference(request: &Request, lending: &Lending) -> Option<String> {
@@ -35,11 +37,11 @@ pub(super) fn told(request: &Request, lendings: &[Lending]) -> String {
 
 fn smallest(request: &Request, lending: &Lending) -> Request {
     let mut small = request.clone();
-    let mut tries = 0;
+    let (mut tries, begin) = (0, Instant::now());
     loop {
         let better = smaller(&small).find(|request| {
             tries += 1;
-            tries < TRIES && difference(request, lending).is_some()
+            tries < TRIES && begin.elapsed() < TIME && difference(request, lending).is_some()
         });
         match better {
             Some(better) => small = better,
