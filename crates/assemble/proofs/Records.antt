@@ -83,3 +83,8 @@ module _ {n : ℕ} {t : List ℕ} where
   pub within : {x : ℕ} {xs : List ℕ} {us : List (List ℕ)} → Held n t x xs us → x ≤ n
   within (end e p) = omega arith
   within (more p a b c d e r) = omega arith
+
+  -- rows make a segment or more
+  pub held-some : {x : ℕ} {xs : List ℕ} {us : List (List ℕ)} → Held n t x xs us → 1 ≤ length xs → 1 ≤ length us
+  held-some (end e p) h = absurd (omega (arith, ap length p))
+  held-some (more p a b c d e r) h = omega arith

@@ -1,5 +1,6 @@
 // Document 01's bodies, read by the public calls, and its pages and rows, gathered: each answer on a line of its own, in ten digits, or a word.
 mod gathering;
+mod plans;
 
 use directory::Segment;
 use libc::STDOUT_FILENO;
@@ -243,4 +244,8 @@ fn main() {
     gathering::pages();
     gathering::rows();
     list_segments();
+    plans::all();
+    plans::edges();
+    plans::seeds();
+    plans::struck();
 }

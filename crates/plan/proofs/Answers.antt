@@ -3,11 +3,14 @@
 use mathlib.Core.Path.{_≡_, refl, sym, ap, _∙_}
 use mathlib.Core.List.{List, _++_}
 use Prim.Native.Nat.{ℕ, _*_, _≤_}
+use mathlib.Core.Logic.{⊎-elim}
+use lib.Dec.{eqb, leb}
 use lib.ListN.{length, drop, replicate}
 use lib.Seq.{drop-append-seam}
 use borrow.Author.Tests.{eq-eqb, ne-eqb, le-leb}
 use Rattle.model.specs.Answers.{accepted, refused, over}
-use Rattle.model.proofs.Tests.{pick-true, pick-false}
+use Rattle.model.specs.Tests.{pick, both}
+use Rattle.model.proofs.Tests.{either, pick-true, pick-false}
 use Rattle.planning.specs.Refusals.{endsOf, roomFits, earlyNumber}
 use Rattle.planning.proofs.Dividing.{early-divided}
 use Rattle.planning.specs.Planning.{plannedSegments, plannedOffers, plannedForm, plannedBody, lateNumber, plannedValues, answered, planNumber, planOf, planOut, planWork}
@@ -97,3 +100,9 @@ unfolding over
 over-back zs ys xs v e f =
     let seam : drop v (ys ++ drop v xs) ≡ drop v xs = rw (← f) (drop-append-seam ys (drop (length ys) xs)) in
     rw (e, seam)
+
+-- the first number of tests 6 and 7
+pub first-late : (bytes limit room : ℕ)
+    → pick (eqb (pick (both (leb bytes limit) (leb bytes 65535)) 0 6) 0) (pick (leb bytes room) 0 7) (pick (both (leb bytes limit) (leb bytes 65535)) 0 6) ≡ lateNumber bytes limit room
+unfolding lateNumber pick
+first-late bytes limit room = ⊎-elim (λ e. rw e) (λ e. rw e) (either (both (leb bytes limit) (leb bytes 65535)))

@@ -1,3 +1,4 @@
 pub mod Choice
 pub mod Answers
 pub mod Ready
+pub mod Same

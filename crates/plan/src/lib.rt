@@ -2,7 +2,9 @@
 ghost use mathlib.Core.Path.{_≡_};
 ghost use mathlib.Core.List.{List, []};
 ghost use Prim.Native.Nat.{ℕ, _*_, _-_, _<_, _≤_};
+ghost use lib.Dec.{eqb, leb};
 ghost use lib.ListN.{length};
+ghost use Rattle.model.specs.Tests.{pick, both};
 ghost use Rattle.cost.specs.Forms.{lex};
 ghost use Rattle.model.specs.Answers.{accepted};
 ghost use Rattle.planning.specs.Refusals.{endsOf, earlyNumber};
@@ -80,17 +82,35 @@ fn decide(w: &mut [u32], n: usize, span: u32) -> Decision
     }
 }
 
-// The number of refusal 6 or 7, or 0.
-fn late(bytes: u64, limit: usize, room: usize) -> u8
-    ensures { λ r. ⌜ r ≡ lateNumber bytes limit room ⌝ }
+// Test 6, then test 7: the number of the refusal, or 0.
+fn six(bytes: u64, limit: usize) -> u8
+    ensures { λ r. ⌜ r ≡ pick (both (leb bytes limit) (leb bytes 65535)) 0 6 ⌝ }
 {
     if (limit as u64) < bytes {
         return 6;
     }
-    if 65535 < bytes {
-        return 6;
-    }
+    if 65535 < bytes { 6 } else { 0 }
+}
+
+fn seven(bytes: u64, room: usize) -> u8
+    ensures { λ r. ⌜ r ≡ pick (leb bytes room) 0 7 ⌝ }
+{
     if (room as u64) < bytes { 7 } else { 0 }
+}
+
+// The first number that is not 0.
+fn first_of(a: u8, b: u8) -> u8
+    ensures { λ r. ⌜ r ≡ pick (eqb a 0) b a ⌝ }
+{
+    if a == 0 { b } else { a }
+}
+
+fn late(bytes: u64, limit: usize, room: usize) -> u8
+    ensures { λ r. ⌜ r ≡ lateNumber bytes limit room ⌝ }
+{
+    let long = six(bytes, limit);
+    let short = seven(bytes, room);
+    first_of(long, short)
 }
 
 // What an accepted plan answers.
@@ -217,13 +237,13 @@ pub fn plan_ordinals(
     ensures { λ _. ⌜ now (out .exit) ≡ planOut 0 count (now (ordinals .entry)) [] limit (length (now (work .entry))) (now (out .entry)) ⌝ }
     ensures { λ _. ⌜ now (work .exit) ≡ planWork 0 count (now (ordinals .entry)) [] (now (work .entry)) ⌝ }
 {
-    let early = seeds::ordinals_early(count, ordinals, work.len());
-    if early.number != 0 {
-        return Planned::Refused(early.number);
+    let judged = seeds::ordinals_early(count, ordinals, work.len());
+    if judged.number != 0 {
+        return Planned::Refused(judged.number);
     }
-    let n = early.seeds;
-    let words = words_for(n);
-    let r = planned_ordinals(count, ordinals, n, limit, &mut work[0..words], out);
-    merge::clear(work, n);
+    let windows = judged.seeds;
+    let words = words_for(windows);
+    let r = planned_ordinals(count, ordinals, windows, limit, &mut work[0..words], out);
+    merge::clear(work, windows);
     r
 }

@@ -45,7 +45,7 @@ pub enum Entry {
 
 // ---- what every call stands on
 
-fn is_accepted(tag: u8, span: u32, body: &[u8]) -> bool
+pub fn is_accepted(tag: u8, span: u32, body: &[u8]) -> bool
     ensures { λ r. ⌜ r ≡ accepts tag span (now (body .entry)) ⌝ }
 {
     if tag == 9 {
@@ -54,7 +54,7 @@ fn is_accepted(tag: u8, span: u32, body: &[u8]) -> bool
     single::check(tag, span, body)
 }
 
-fn count(tag: u8, span: u32, body: &[u8]) -> u16
+pub fn count(tag: u8, span: u32, body: &[u8]) -> u16
     requires { ⌜ accepts tag span (now body) ≡ true ⌝ }
     ensures { λ r. ⌜ r ≡ length (names tag span (now (body .entry))) ⌝ }
 {
@@ -64,7 +64,7 @@ fn count(tag: u8, span: u32, body: &[u8]) -> u16
     single::parse(tag, span, body).count
 }
 
-fn place(tag: u8, span: u32, body: &[u8], p: u32) -> Place
+pub fn place(tag: u8, span: u32, body: &[u8], p: u32) -> Place
     requires { ⌜ accepts tag span (now body) ≡ true ⌝ }
     ensures { λ r. ⌜ r ≡ placeOf (names tag span (now (body .entry))) p ⌝ }
 {
@@ -84,7 +84,7 @@ fn position(tag: u8, span: u32, body: &[u8], k: u16) -> u32
     single::select(single::parse(tag, span, body), body, k)
 }
 
-fn write(tag: u8, span: u32, body: &[u8], k: u16, out: &mut [u32]) -> usize
+pub fn write(tag: u8, span: u32, body: &[u8], k: u16, out: &mut [u32]) -> usize
     requires { ⌜ accepts tag span (now body) ≡ true ⌝ }
     ensures { λ r. ⌜ Walked (walkOf (names tag span (now (body .entry))) k (length (now (out .entry)))) (now (out .entry)) (now (out .exit)) r ⌝ }
 {

@@ -11,7 +11,7 @@ pub(crate) enum Place {
     AsGiven,
     /// The slice ends where a page begins that may not be touched.
     Ending,
-    /// The slice starts where such a page ends.
+    /// The slice starts where such a page ends. An empty slice stands nowhere: its pointer is null.
     Starting,
 }
 
@@ -73,9 +73,12 @@ impl Slab {
         if place == Place::AsGiven as u8 {
             return None;
         }
-        let size = size_of_val(given);
+        let (size, ending) = (size_of_val(given), place == Place::Ending as u8);
         let slab = Self::taken(size);
-        let skipped = if place == Place::Ending as u8 { slab.size - size } else { 0 };
+        if given.is_empty() && !ending {
+            return Some((slab, null_mut()));
+        }
+        let skipped = if ending { slab.size - size } else { 0 };
         // SAFETY: the slab has `size` bytes from there on. Both ends of it are aligned for every type.
         let copy = unsafe { slab.bytes.add(skipped).cast::<T>() };
         unsafe { copy_nonoverlapping(given.as_ptr(), copy, given.len()) };
@@ -133,8 +136,10 @@ impl<T> Drop for LentMut<'_, T> {
     #[inline]
     fn drop(&mut self) {
         if let Some((slab, copy)) = self.copy.take() {
-            // SAFETY: the copy has as many elements as the slice.
-            unsafe { copy_nonoverlapping(copy, self.given.as_mut_ptr(), self.given.len()) };
+            if !copy.is_null() {
+                // SAFETY: the copy has as many elements as the slice.
+                unsafe { copy_nonoverlapping(copy, self.given.as_mut_ptr(), self.given.len()) };
+            }
             FREE.with_borrow_mut(|free| free.push(slab));
         }
     }

@@ -1,0 +1,63 @@
+-- Two results of a call with the same answer are equal, so the contracts of the calls state one result.
+-- Assumes nothing.
+use mathlib.Core.Path.{_≡_, refl, ap}
+use mathlib.Core.List.{List}
+use Prim.Native.Nat.{ℕ}
+use native.Mathlib.Omega.{arith}
+use lib.ListN.{length, getD}
+use Rattle.model.specs.Answers.{Answer}
+use Rattle.deletion.specs.Reading.{countedOf, containedOf}
+use Rattle.plan.specs.Plans.{valuesOf}
+use Rattle.plan.specs.declared.Body.{Body}
+use Rattle.deletion.specs.Striking.{struckOf}
+use Rattle.deletion.specs.declared.Counted.{Counted}
+use Rattle.deletion.specs.declared.Counted.the-variants as counted
+use Rattle.deletion.specs.declared.Contained.{Contained}
+use Rattle.deletion.specs.declared.Contained.the-variants as contained
+use Rattle.deletion.specs.declared.Struck.{Struck}
+use Rattle.deletion.specs.declared.Struck.the-variants as struck
+
+-- what two equal answers have in common
+same-size : {a b : Answer} → a ≡ b → length (a .values) ≡ length (b .values)
+same-size e = ap (λ (x : Answer). length (x .values)) e
+
+same-first : {a b : Answer} → a ≡ b → getD (a .values) 0 0 ≡ getD (b .values) 0 0
+same-first e = ap (λ (x : Answer). getD (x .values) 0 0) e
+
+same-number : {a b : Answer} → a ≡ b → a .number ≡ b .number
+same-number e = ap (λ (x : Answer). x .number) e
+
+-- a plan from its values
+abbrev bodyFrom : List ℕ → Body
+bodyFrom vs = record { tag = getD vs 0 0; length = getD vs 1 0; segments = getD vs 2 0; offers = getD vs 3 0 }
+
+pub counted-same : (a b : Counted) → countedOf a ≡ countedOf b → a ≡ b
+unfolding countedOf
+counted-same (counted.Deleted m) (counted.Deleted n) e = ap counted.Deleted (same-first e)
+counted-same (counted.Deleted m) (counted.Refused k) e = absurd (omega (arith, same-size e))
+counted-same (counted.Refused k) (counted.Deleted n) e = absurd (omega (arith, same-size e))
+counted-same (counted.Refused k) (counted.Refused j) e = ap counted.Refused (same-number e)
+
+pub contained-same : (a b : Contained) → containedOf a ≡ containedOf b → a ≡ b
+unfolding containedOf
+contained-same contained.Yes contained.Yes e = refl
+contained-same contained.Yes contained.No e = absurd (omega (arith, same-first e))
+contained-same contained.Yes (contained.Refused k) e = absurd (omega (arith, same-size e))
+contained-same contained.No contained.Yes e = absurd (omega (arith, same-first e))
+contained-same contained.No contained.No e = refl
+contained-same contained.No (contained.Refused k) e = absurd (omega (arith, same-size e))
+contained-same (contained.Refused k) contained.Yes e = absurd (omega (arith, same-size e))
+contained-same (contained.Refused k) contained.No e = absurd (omega (arith, same-size e))
+contained-same (contained.Refused k) (contained.Refused j) e = ap contained.Refused (same-number e)
+
+pub struck-same : (a b : Struck) → struckOf a ≡ struckOf b → a ≡ b
+unfolding struckOf valuesOf
+struck-same struck.Empty struck.Empty e = refl
+struck-same struck.Empty (struck.Made b) e = absurd (omega (arith, same-size e))
+struck-same struck.Empty (struck.Refused k) e = absurd (omega (arith, same-size e))
+struck-same (struck.Made a) struck.Empty e = absurd (omega (arith, same-size e))
+struck-same (struck.Made a) (struck.Made b) e = ap (λ (x : Answer). struck.Made (bodyFrom (x .values))) e
+struck-same (struck.Made a) (struck.Refused k) e = absurd (omega (arith, same-size e))
+struck-same (struck.Refused k) struck.Empty e = absurd (omega (arith, same-size e))
+struck-same (struck.Refused k) (struck.Made b) e = absurd (omega (arith, same-size e))
+struck-same (struck.Refused k) (struck.Refused j) e = ap struck.Refused (same-number e)
