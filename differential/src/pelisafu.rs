@@ -7,6 +7,7 @@ mod memory;
 mod planning;
 pub(crate) mod plans;
 mod reading;
+mod short;
 mod soak;
 
 use crate::case::Verdict;
@@ -14,9 +15,10 @@ pub(crate) use guarded::compare as compare_guarded;
 pub(crate) use soak::soak;
 
 pub(crate) fn compare() -> Verdict {
+    let short = short::compare()?;
     let reading = reading::compare()?;
     let gathering = gathering::compare()?;
-    Ok(format!("pelisafu: {reading}; {gathering}"))
+    Ok(format!("pelisafu: {short}; {reading}; {gathering}"))
 }
 
 pub(crate) fn compare_planning() -> Verdict {

@@ -79,11 +79,12 @@ fn their_time(case: &Case) -> f64 {
     median(|| encode(black_box(case), black_box(&rows), &seeds))
 }
 
-/// The same rows as ordinals, where they can be: of the originals' coverages all but the wide ones.
+/// The same rows as ordinals, where they can be: the row count is the end of the coverage, or 65,535 if that is less.
 fn ordinals_cell(case: &Case) -> String {
-    let Ok(row_count) = u16::try_from(case.end) else {
+    let row_count = u16::try_from(case.end).unwrap_or(u16::MAX);
+    if case.rows.last().is_some_and(|row| *row >= u64::from(row_count)) {
         return "-".to_string();
-    };
+    }
     let ordinals: Vec<u16> = case.rows.iter().map(|row| *row as u16).collect();
     let ours = plan_time(|means| plan_ordinals(row_count, black_box(&ordinals), means));
     let theirs =

@@ -8,6 +8,7 @@ mod exhaustive;
 mod known;
 mod shrink;
 mod tally;
+mod ties;
 
 use super::calls::Body;
 use super::plans::{Means, Planned, plan_ordinals, plan_rows};
@@ -57,6 +58,7 @@ pub(super) fn compare() -> Result<String, String> {
     let mut tally = Tally::default();
     exhaustive::compare(12, &mut tally)?;
     edges::compare(1, &mut tally)?;
+    ties::compare(40, &mut tally)?;
     let mut random = Random::new(11);
     for round in 0..ROUNDS {
         let most = if round % 250 == 249 { 65_535 } else { 200 };
@@ -71,6 +73,7 @@ pub(super) fn compare() -> Result<String, String> {
 pub(super) fn compare_part(random: &mut Random, tally: &mut Tally) -> Result<(), String> {
     exhaustive::compare(6, tally)?;
     edges::compare(41, tally)?;
+    ties::compare(8, tally)?;
     for round in 0..60 {
         drawn::compare(random, if round == 30 { 65_535 } else { 200 }, tally)?;
         damage::compare(random, tally)?;

@@ -110,8 +110,8 @@ pub(super) fn part(turn: usize, rows: &[u64]) -> Option<Part> {
     })
 }
 
-/// The same reading with a byte changed, bytes cut off or added, another tag or span. Short
-/// bodies are damaged everywhere, long ones here and there.
+/// The same reading with a byte changed, a bit flipped, two fields swapped, bytes cut off or
+/// added, another tag or span. Short bodies are damaged everywhere, long ones here and there.
 pub(super) fn damaged(
     random: &mut Random,
     reading: &Reading,
@@ -128,6 +128,15 @@ pub(super) fn damaged(
             damage(&|r| r.body[at] = r.body[at].wrapping_add(change))?;
         }
         damage(&|r| r.body.truncate(at))?;
+    }
+    for _ in 0..4 {
+        let mut near = |bound: usize| random.below(bound.clamp(1, 64) as u64) as usize;
+        let length = reading.body.len();
+        let (one, other, bit) = (near(length / 2), near(length / 2), near(8));
+        if length >= 2 {
+            damage(&|r| (0..2).for_each(|byte| r.body.swap(2 * one + byte, 2 * other + byte)))?;
+            damage(&|r| r.body[one] ^= 1 << bit)?;
+        }
     }
     for added in [1, 2, 4, 16] {
         damage(&|r| r.body.extend(vec![0; added]))?;

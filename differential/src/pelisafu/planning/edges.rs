@@ -97,6 +97,7 @@ fn others() -> Vec<Case> {
         Case::new(0, 65_536, [0, 65_534]).in_pages_of(2),
         Case::new(0, 65_536, [0, 65_535]).in_pages_of(2),
     ];
+    all.extend([7_708, 7_709, 7_710].into_iter().flat_map(longest_bitmaps));
     for (start, end) in [(5, 4), (5, 5), (0, 0), (0, WIDEST), (0, WIDEST + 1), (1, WIDEST + 1)] {
         all.push(Case::new(start, end, [start]));
         all.push(Case::new(start, end, []));
@@ -109,4 +110,12 @@ fn others() -> Vec<Case> {
         }
     }
     all
+}
+
+/// Bitmaps of so many words, plain and trimmed, of 65,522 to 65,548 bytes: on both sides of the longest body.
+fn longest_bitmaps(words: u64) -> [Case; 2] {
+    let rows = (0..8 * words).map(|n| 8 * n + n * n % 5);
+    let span = 64 * words;
+    let moved = rows.clone().map(|row| 70_000 + row);
+    [Case::new(0, span, rows), Case::new(0, 70_000 + span, moved)]
 }
