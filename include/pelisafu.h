@@ -19,6 +19,9 @@
  *    6  a body longer than the limit or than 65,535 bytes
  *    7  an output that is too short
  *    8  a body that is not accepted: its tag, its bytes or its span
+ *    9  deletions: row count 0 or above the block limit; in reading also: a stated count of 0 or above the row count, or
+ *       a body longer than 4 and the bytes of a bitmap of all rows
+ *   10  deletions: a body of another count than the stated one
  *   11  a table of seed ends without room for the new ones
  *   12  a record that gathering cannot have come to
  * Where several apply, the one that comes first in the order given at the call is answered. A refused call leaves every
@@ -36,7 +39,8 @@ extern "C" {
 
 /* ---- answers */
 
-/* A plan: the tag and the bytes of its body, the segments after merging, and the offers that merging took. */
+/* A plan: the tag and the bytes of its body, the segments after merging, and the offers that merging took. Of no deletions
+ * the plan is all 0: number 0 with tag 0, and no body. */
 typedef struct {
     uint8_t number, tag;
     uint16_t length, segments;
@@ -66,6 +70,11 @@ typedef struct {
     uint8_t number;
     size_t written;
 } pelisafu_filled;
+
+/* found: 1 where the row is deleted; else 0. */
+typedef struct {
+    uint8_t number, found;
+} pelisafu_contained;
 
 /* Where gathering stands: entries of the table in use, rows gathered, first row of the last seed, last row. All 0 to
  * begin with. */
@@ -145,6 +154,32 @@ pelisafu_gathered pelisafu_gather_page(pelisafu_gatherer record, uint16_t *table
 uint8_t pelisafu_add_row(pelisafu_gatherer *record, uint16_t *table, size_t table_len, uint64_t row);
 uint8_t pelisafu_add_page(pelisafu_gatherer *record, uint16_t *table, size_t table_len,
                           const uint64_t *rows, size_t rows_len);
+
+/* ---- deletions: the deleted rows of a block, as ordinals below its row count
+ *
+ * A block has at most block_limit rows. What is stored of its deletions is their count, the tag and the body, which the
+ * reading calls take again. No deletions are not stored, so the reading calls refuse the count 0. */
+
+/* Plans the deleted ordinals, strictly rising below the row count, into the front of out. With no ordinals nothing is
+ * written, not even to the workspace. Refuses: 9, then as pelisafu_plan_ordinals, but 6 never. Refusal 9 leaves the
+ * workspace as it was. */
+pelisafu_plan pelisafu_plan_deletions(uint16_t row_count, size_t block_limit, const uint16_t *ordinals,
+                                      size_t ordinals_len, uint32_t *work, size_t work_len,
+                                      uint8_t *out, size_t out_len);
+
+/* How many rows are deleted. Refuses: 9, 8, 10, in that order. */
+pelisafu_checked pelisafu_check_deletions(uint16_t row_count, size_t block_limit, uint16_t count, uint8_t tag,
+                                          const uint8_t *body, size_t body_len);
+
+/* Whether the row of this ordinal is deleted. Refuses: 9, 8, 10, in that order. */
+pelisafu_contained pelisafu_deleted(uint16_t row_count, size_t block_limit, uint16_t count, uint8_t tag,
+                                    const uint8_t *body, size_t body_len, uint16_t ordinal);
+
+/* The deleted ordinals from the from-th deletion on, as many as remain or fit, into the front of out. Answers how many.
+ * Refuses: 9, 8, 10, in that order. */
+pelisafu_filled pelisafu_walk_deletions(uint16_t row_count, size_t block_limit, uint16_t count, uint8_t tag,
+                                        const uint8_t *body, size_t body_len, uint16_t from,
+                                        uint16_t *out, size_t out_len);
 
 #ifdef __cplusplus
 }

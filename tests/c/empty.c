@@ -58,10 +58,28 @@ static void gathering(void) {
     expect("record", memcmp(&record, &none, sizeof none) != 0, 0);
 }
 
+static void deletions(void) {
+    uint16_t ordinals[2] = {3, 4};
+    uint32_t work[24];
+    uint8_t out[16];
+    expect("no deletions", pelisafu_plan_deletions(9, 9, NULL, 0, NULL, 0, NULL, 0).number, 0);
+    expect("no deletions' tag", pelisafu_plan_deletions(9, 9, NULL, 0, NULL, 0, NULL, 0).tag, 0);
+    expect("no workspace", pelisafu_plan_deletions(9, 9, ordinals, 2, NULL, 0, out, 16).number, 5);
+    expect("no output", pelisafu_plan_deletions(9, 9, ordinals, 2, work, 24, NULL, 0).number, 7);
+    /* all rows of the block are deleted: a dense set, whose body is empty */
+    expect("check", pelisafu_check_deletions(5, 5, 5, 1, NULL, 0).rows, 5);
+    expect("deleted", pelisafu_deleted(5, 5, 5, 1, NULL, 0, 4).found, 1);
+    expect("walk", pelisafu_walk_deletions(5, 5, 5, 1, NULL, 0, 0, NULL, 0).number, 0);
+    expect("another count", pelisafu_check_deletions(5, 5, 4, 1, NULL, 0).number, 10);
+    expect("another tag", pelisafu_deleted(5, 5, 4, 0, NULL, 0, 4).number, 8);
+    expect("count 0", pelisafu_walk_deletions(5, 5, 0, 0, NULL, 0, 0, NULL, 0).number, 9);
+}
+
 int main(void) {
     planning();
     reading();
     gathering();
+    deletions();
     if (!failed) puts("empty slices taken");
     return failed;
 }

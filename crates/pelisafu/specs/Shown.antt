@@ -12,6 +12,7 @@ use Rattle.pelisafu.specs.declared.Checked.{Checked}
 use Rattle.pelisafu.specs.declared.Ranked.{Ranked}
 use Rattle.pelisafu.specs.declared.Selected.{Selected}
 use Rattle.pelisafu.specs.declared.Filled.{Filled}
+use Rattle.pelisafu.specs.declared.Contained.{Contained}
 use Rattle.pelisafu.specs.declared.Gathered.{Gathered}
 
 -- the i-th value of an answer, 0 where it has none
@@ -38,6 +39,10 @@ shownSelected a = record { number = a .number; found = someIn (a .values); posit
 
 unfoldable pub shownFilled : Answer → Filled
 shownFilled a = record { number = a .number; written = valueAt a 0 }
+
+-- 1 for yes, 0 for no
+unfoldable pub shownContained : Answer → Contained
+shownContained a = record { number = a .number; found = valueAt a 0 }
 
 -- the number, beside the record that the call leaves
 unfoldable pub shownGathered : Answer → Gatherer → Gathered

@@ -1,10 +1,15 @@
 // The C interface: each public call under its plain name, as include/pelisafu.h declares it. An exported function cannot answer an
 // enum, so each answers a struct: the number of the refusal, 0 for none, and the values, 0 where there are none.
 // The records that a host lends, directory::Segment and gather::Gatherer, are the crates' own.
+mod deletions;
 mod gathering;
 mod plans;
 mod reading;
 
+pub use deletions::pelisafu_check_deletions;
+pub use deletions::pelisafu_deleted;
+pub use deletions::pelisafu_plan_deletions;
+pub use deletions::pelisafu_walk_deletions;
 pub use gathering::pelisafu_add_page;
 pub use gathering::pelisafu_add_row;
 pub use gathering::pelisafu_gather_page;
@@ -56,6 +61,13 @@ pub struct Selected {
 pub struct Filled {
     pub number: u8,
     pub written: usize,
+}
+
+// Whether the row is deleted.
+#[repr(C)]
+pub struct Contained {
+    pub number: u8,
+    pub found: u8,
 }
 
 // Where gathering stands after the call: as before it where it was refused.
