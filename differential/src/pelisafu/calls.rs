@@ -3,7 +3,7 @@
 use super::memory::{Lent, LentMut};
 
 #[repr(C)]
-struct Checked {
+pub(super) struct Checked {
     number: u8,
     rows: u16,
 }
@@ -23,7 +23,7 @@ struct Selected {
 }
 
 #[repr(C)]
-struct Filled {
+pub(super) struct Filled {
     number: u8,
     written: usize,
 }
@@ -115,7 +115,7 @@ unsafe extern "C" {
 pub(crate) type Told<T> = Result<Option<T>, u8>;
 
 /// A value that is not there is 0.
-fn told(number: u8, found: u8, value: u64) -> Told<u64> {
+pub(super) fn told(number: u8, found: u8, value: u64) -> Told<u64> {
     match (number, found, value) {
         (0, 1, value) => Ok(Some(value)),
         (0, 0, 0) => Ok(None),
@@ -125,13 +125,13 @@ fn told(number: u8, found: u8, value: u64) -> Told<u64> {
 }
 
 impl Checked {
-    fn told(self) -> Told<u64> {
+    pub(super) fn told(self) -> Told<u64> {
         told(self.number, u8::from(self.number == 0), u64::from(self.rows))
     }
 }
 
 impl Filled {
-    fn told(self) -> Told<u64> {
+    pub(super) fn told(self) -> Told<u64> {
         told(self.number, u8::from(self.number == 0), self.written as u64)
     }
 }

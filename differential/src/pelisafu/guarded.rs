@@ -2,7 +2,7 @@
 //! touched. One byte read or written outside ends the run.
 
 use super::memory::{Place, set_place};
-use super::{gathering, planning, reading};
+use super::{deletions, gathering, planning, reading};
 use crate::case::Verdict;
 use crate::random::Random;
 use crate::reading::for_each;
@@ -34,5 +34,8 @@ fn compare_part() -> Result<String, String> {
         if turn % EVERY == 0 { reading::compare_body(body, &mut bodies) } else { Ok(()) }
     })?;
     let gathered = gathering::compare_rounds(&mut random, 10, 5_000)?;
-    Ok(format!("{}; {}; {gathered}", plans.summary(), bodies.summary()))
+    let mut sections = deletions::Tally::default();
+    deletions::compare(&mut random, 5, &mut sections)?;
+    let (plans, bodies, sections) = (plans.summary(), bodies.summary(), sections.summary());
+    Ok(format!("{plans}; {bodies}; {gathered}; {sections}"))
 }

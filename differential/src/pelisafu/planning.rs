@@ -152,8 +152,28 @@ fn compare_call(
     Ok(())
 }
 
+/// What planning of deletions must come to, with so much more workspace and output than needed: test 9, then Empty, then
+/// as planning of ordinals without a limit.
+pub(super) fn deletion_answer(
+    row_count: u16,
+    block_limit: usize,
+    ordinals: &[u16],
+    (work, out): (i64, i64),
+) -> Result<Right, String> {
+    let rows = ordinals.iter().map(|ordinal| u64::from(*ordinal));
+    let request = Request::gathered(Case::new(0, u64::from(row_count), rows));
+    let mut right = known::known(&request)?.right(&Lending { work, out, limit: None });
+    let refused = row_count == 0 || usize::from(row_count) > block_limit;
+    if refused || ordinals.is_empty() {
+        right.answer = Planned { number: if refused { 9 } else { 0 }, ..Planned::default() };
+        right.work = words(right.work.len());
+        right.out = bytes(right.out.len());
+    }
+    Ok(right)
+}
+
 /// What one call must come to: the answer, and what stands in workspace and output afterwards.
-struct Right {
+pub(super) struct Right {
     limit: usize,
     answer: Planned,
     work: Vec<u32>,
@@ -171,7 +191,20 @@ fn bytes(count: usize) -> Vec<u8> {
 }
 
 impl Right {
-    fn compare(&self, name: &str, call: impl Fn(Means) -> Planned) -> Result<(), String> {
+    pub(super) fn number(&self) -> u8 {
+        self.answer.number
+    }
+
+    /// The tag and the body that are planned.
+    pub(super) fn section(&self) -> (u8, &[u8]) {
+        (self.answer.tag, &self.out[..usize::from(self.answer.length)])
+    }
+
+    pub(super) fn compare(
+        &self,
+        name: &str,
+        call: impl Fn(Means) -> Planned,
+    ) -> Result<(), String> {
         let (mut work, mut out) = (words(self.work.len()), bytes(self.out.len()));
         let answer = call(Means { limit: self.limit, work: &mut work, out: &mut out });
         if answer != self.answer {

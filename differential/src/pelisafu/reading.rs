@@ -47,7 +47,11 @@ pub(super) fn compare_body(reading: &Reading, tally: &mut Tally) -> Result<(), S
     compared.map_err(|what| reading.told(&what))
 }
 
-fn same<T: PartialEq + std::fmt::Debug>(what: &str, ours: T, right: T) -> Result<(), String> {
+pub(super) fn same<T: PartialEq + std::fmt::Debug>(
+    what: &str,
+    ours: T,
+    right: T,
+) -> Result<(), String> {
     if ours == right { Ok(()) } else { Err(format!("{what} gives {ours:?}, not {right:?}")) }
 }
 

@@ -1,10 +1,10 @@
 //! Random cases of all comparisons until the time is over.
 
 use super::memory::{Place, set_place};
-use super::{gathering, planning, reading};
+use super::{deletions, gathering, planning, reading};
 use crate::case::Verdict;
+use crate::merging;
 use crate::random::Random;
-use crate::{deletions, merging};
 use std::time::{Duration, Instant};
 
 /// For so many seconds, from that seed on. The same seed gives the same cases in the same order.
@@ -12,19 +12,21 @@ pub(crate) fn soak(seconds: u64, seed: u64) -> Verdict {
     let begin = Instant::now();
     let mut random = Random::new(seed);
     let (mut plans, mut bodies) = (planning::Tally::default(), reading::Tally::default());
+    let mut sections = deletions::Tally::default();
     let mut rounds = 0;
     while begin.elapsed() < Duration::from_secs(seconds) {
         set_place([Place::AsGiven, Place::Ending, Place::Starting][rounds % 3]);
-        let compared = round(&mut random, &mut plans, &mut bodies);
+        let compared = round(&mut random, &mut plans, &mut bodies, &mut sections);
         set_place(Place::AsGiven);
         compared.map_err(|what| format!("seed {seed}, round {rounds}: {what}"))?;
         rounds += 1;
     }
     Ok(format!(
-        "soak: seed {seed}, {rounds} rounds in {seconds} s, two of three beside guarded pages; {}; {}; every round \
-         also merging, gathering and deletions",
+        "soak: seed {seed}, {rounds} rounds in {seconds} s, two of three beside guarded pages; {}; {}; {}; every \
+         round also merging and gathering",
         plans.summary(),
-        bodies.summary()
+        bodies.summary(),
+        sections.summary()
     ))
 }
 
@@ -32,6 +34,7 @@ fn round(
     random: &mut Random,
     plans: &mut planning::Tally,
     bodies: &mut reading::Tally,
+    sections: &mut deletions::Tally,
 ) -> Result<(), String> {
     for _ in 0..4 {
         planning::compare_drawn(random, plans)?;
@@ -42,5 +45,5 @@ fn round(
     })?;
     gathering::compare_rounds(random, 1, 200)?;
     merging::compare_drawn(random)?;
-    deletions::compare_drawn(random)
+    deletions::compare_drawn(random, sections)
 }
