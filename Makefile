@@ -1,7 +1,11 @@
 # make        prove every layer and build what a host needs
 # make test   all checking; the last line is rt's own 'N passed, 0 failed'
+# make soak   random comparisons with the Rust: make soak SECONDS=600 SEED=1
 # make bench  time the original and, where it exists, Pelisafu beside it
-.PHONY: all test bench clean
+.PHONY: all test soak bench clean
+
+SECONDS = 60
+SEED = 1
 
 # A part of dist/ is built once its crate is listed in crates.txt.
 HAS = $(shell grep -qE '^$(1):' crates.txt && echo yes)
@@ -24,6 +28,9 @@ endif
 
 test:
 	@tests/run
+
+soak:
+	differential/run soak $(SECONDS) $(SEED)
 
 bench:
 	differential/run bench

@@ -1,11 +1,13 @@
 //! Measures the original: planning, validating, ranking, selecting and walking, by tag; and
-//! Pelisafu's reading calls beside it. Inputs are made before the clock runs, and every answer
+//! Pelisafu's planning, gathering and reading calls beside it. Inputs are made before the clock runs, and every answer
 //! goes into a black box.
 
 #[cfg(pelisafu)]
 mod beside;
 mod clock;
 mod inputs;
+#[cfg(pelisafu)]
+mod planning;
 
 use crate::case::{Case, Verdict};
 use crate::index::original::{self, Accepted, Seeds, encode, row_ids};
@@ -23,7 +25,10 @@ pub(crate) fn table() -> Verdict {
     merging_table();
     reading_table();
     #[cfg(pelisafu)]
-    beside::table();
+    {
+        planning::tables();
+        beside::table();
+    }
     Ok(format!("\nbench: each figure is the median of {SAMPLES} samples"))
 }
 

@@ -8,7 +8,7 @@ use crate::plain;
 use crate::plain::costs::bitmap_length;
 use crate::random::Random;
 
-const ROW_COUNTS: [u16; 11] = [0, 1, 2, 10, 64, 65, 256, 257, 5_000, 65_534, 65_535];
+pub(crate) const ROW_COUNTS: [u16; 11] = [0, 1, 2, 10, 64, 65, 256, 257, 5_000, 65_534, 65_535];
 
 #[derive(Default)]
 struct Tally {
@@ -22,8 +22,7 @@ pub(crate) fn compare() -> Verdict {
     let mut random = Random::new(3);
     let mut tally = Tally::default();
     for row_count in ROW_COUNTS {
-        let rows = usize::from(row_count);
-        for block_limit in [0, rows.saturating_sub(1), rows, 65_535, usize::MAX] {
+        for block_limit in limits(row_count) {
             for ordinals in ordinal_sets(&mut random, row_count) {
                 compare_set(row_count, block_limit, &ordinals, &mut tally)?;
             }
@@ -43,7 +42,7 @@ pub(crate) fn compare() -> Verdict {
 }
 
 /// Deletions of every density, none at all, and some that no planner may take.
-fn ordinal_sets(random: &mut Random, row_count: u16) -> Vec<Vec<u16>> {
+pub(crate) fn ordinal_sets(random: &mut Random, row_count: u16) -> Vec<Vec<u16>> {
     let mut sets = vec![
         Vec::new(),
         (0..row_count).collect(),
@@ -82,17 +81,38 @@ fn compare_set(
     };
     tally.planned += 1;
     let count = ordinals.len() as u16;
+    for (limit, stated, tag, body) in readings(row_count, block_limit, count, tag, &body) {
+        let asked = (row_count, limit, stated, tag, body.as_slice());
+        compare_reading(asked, tally).map_err(|e| format!("{e} of {}", told()))?;
+    }
+    Ok(())
+}
+
+/// Block limits around a row count.
+pub(crate) fn limits(row_count: u16) -> [usize; 5] {
+    let rows = usize::from(row_count);
+    [0, rows.saturating_sub(1), rows, 65_535, usize::MAX]
+}
+
+/// Ways to read a planned section: limit, stated count, tag and body, few of them right.
+pub(crate) fn readings(
+    row_count: u16,
+    block_limit: usize,
+    count: u16,
+    tag: u8,
+    body: &[u8],
+) -> Vec<(usize, u16, u8, Vec<u8>)> {
     let bound = 4 + bitmap_length(u64::from(row_count)) as usize;
-    let padded = [body.clone(), vec![0; bound + 1 - body.len()]].concat();
+    let padded = [body, &vec![0; bound + 1 - body.len()]].concat();
+    let mut all = Vec::new();
     for stated in [count, 0, count.wrapping_add(1), count - 1, u16::MAX] {
         for limit in [block_limit, usize::from(row_count) - 1] {
-            for (tag, body) in [(tag, &body), (tag, &padded), (tag ^ 1, &body)] {
-                let asked = (row_count, limit, stated, tag, body.as_slice());
-                compare_reading(asked, tally).map_err(|e| format!("{e} of {}", told()))?;
+            for (tag, body) in [(tag, body), (tag, &padded), (tag ^ 1, body)] {
+                all.push((limit, stated, tag, body.to_vec()));
             }
         }
     }
-    Ok(())
+    all
 }
 
 /// Document 01's planning of deletions: test 9, then Empty, then planning's own.
@@ -110,7 +130,7 @@ fn plain_plan(row_count: u16, block_limit: usize, ordinals: &[u16]) -> Result<Se
 }
 
 /// Row count, block limit, stated count, tag and body.
-type Asked<'a> = (u16, usize, u16, u8, &'a [u8]);
+pub(crate) type Asked<'a> = (u16, usize, u16, u8, &'a [u8]);
 
 fn compare_reading(asked: Asked, tally: &mut Tally) -> Result<(), String> {
     let (row_count, block_limit, stated, tag, body) = asked;
@@ -126,7 +146,9 @@ fn compare_reading(asked: Asked, tally: &mut Tally) -> Result<(), String> {
 }
 
 /// Document 01's reading of deletions: 9, then 8, then 10.
-fn plain_read((row_count, block_limit, stated, tag, body): Asked) -> Result<Vec<u64>, u8> {
+pub(crate) fn plain_read(
+    (row_count, block_limit, stated, tag, body): Asked,
+) -> Result<Vec<u64>, u8> {
     let span = u64::from(row_count);
     if row_count == 0
         || usize::from(row_count) > block_limit

@@ -27,7 +27,8 @@ mod record;
 
 use std::process::ExitCode;
 
-const USAGE: &str = "differential examples|merging|reading|largest|deletions|pelisafu|bench|record";
+const USAGE: &str = "differential examples|merging|reading|largest|deletions|pelisafu|planning|\
+                     guarded|bench|record, or differential soak SECONDS SEED";
 
 fn main() -> ExitCode {
     index::original::hush_caught_panics();
@@ -40,6 +41,12 @@ fn main() -> ExitCode {
         "deletions" => deletions::compare(),
         #[cfg(pelisafu)]
         "pelisafu" => pelisafu::compare(),
+        #[cfg(pelisafu)]
+        "planning" => pelisafu::compare_planning(),
+        #[cfg(pelisafu)]
+        "guarded" => pelisafu::compare_guarded(),
+        #[cfg(pelisafu)]
+        "soak" => soak(),
         "bench" => bench::table(),
         "record" => record::write(),
         _ => Err(format!("usage: {USAGE}")),
@@ -53,5 +60,15 @@ fn main() -> ExitCode {
             eprintln!("{name}: {difference}");
             ExitCode::FAILURE
         }
+    }
+}
+
+/// Runs for as many seconds as the second argument says, from the seed that the third one names.
+#[cfg(pelisafu)]
+fn soak() -> case::Verdict {
+    let number = |place| std::env::args().nth(place).and_then(|n| n.parse().ok());
+    match (number(2), number(3)) {
+        (Some(seconds), Some(seed)) => pelisafu::soak(seconds, seed),
+        _ => Err(format!("usage: {USAGE}")),
     }
 }

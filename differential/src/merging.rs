@@ -42,6 +42,19 @@ pub(crate) fn compare() -> Verdict {
     Ok(tally.summary())
 }
 
+/// One random case of each shape from each source.
+#[cfg(pelisafu)]
+pub(crate) fn compare_drawn(random: &mut Random) -> Result<(), String> {
+    for shape in SHAPES {
+        for source in SOURCES {
+            let count = 1 + random.below(300) as usize;
+            let drawn = case(random, shape, count);
+            compare_plan(&gathered(random, source, drawn), &mut Tally::default())?;
+        }
+    }
+    Ok(())
+}
+
 /// One case: the original and the plain rule must give the same seeds and the same plan, or
 /// refuse alike.
 fn compare_plan(case: &Case, tally: &mut Tally) -> Result<(), String> {

@@ -33,9 +33,12 @@ pub(crate) enum Shape {
     Clusters,
     Edges,
     NearlyFull,
+    Runs,
+    Lonely,
+    LonelyRuns,
 }
 
-pub(crate) const SHAPES: [Shape; 7] = [
+pub(crate) const SHAPES: [Shape; 10] = [
     Shape::Crowded,
     Shape::Scattered,
     Shape::FarApart,
@@ -43,6 +46,9 @@ pub(crate) const SHAPES: [Shape; 7] = [
     Shape::Clusters,
     Shape::Edges,
     Shape::NearlyFull,
+    Shape::Runs,
+    Shape::Lonely,
+    Shape::LonelyRuns,
 ];
 
 /// Distances that stand just before, on and after the bounds of forms and windows.
@@ -60,8 +66,14 @@ impl Shape {
             Self::Clusters => 1 + random.below(3),
             Self::Edges if random.one_in(3) => EDGES[random.below(10) as usize],
             Self::Edges => 1,
+            Self::NearlyFull if random.one_in(120) => 3 + random.below(13),
             Self::NearlyFull if random.one_in(40) => 2,
             Self::NearlyFull => 1,
+            Self::Runs if random.one_in(10) => 1 + random.below(600),
+            Self::Runs => 1,
+            Self::Lonely => 1 + random.below(120_000),
+            Self::LonelyRuns if random.one_in(8) => 40_000 + random.below(40_000),
+            Self::LonelyRuns => 1,
         }
     }
 
@@ -100,10 +112,15 @@ pub(crate) const SOURCES: [Source; 4] =
     [Source::Nothing, Source::Windows, Source::Pages, Source::Mixed];
 
 /// The same case, gathered from that source.
-pub(crate) fn gathered(random: &mut Random, source: Source, mut case: Case) -> Case {
+pub(crate) fn gathered(random: &mut Random, source: Source, case: Case) -> Case {
+    gathered_in(random, source, 20, case)
+}
+
+/// The same case, gathered from that source in pieces of so many rows at most.
+pub(crate) fn gathered_in(random: &mut Random, source: Source, most: u64, mut case: Case) -> Case {
     let mut left = case.rows.len();
     while left > 0 {
-        let rows = left.min(1 + random.below(20) as usize);
+        let rows = left.min(1 + random.below(most) as usize);
         case.gathering.push(match source {
             Source::Nothing => break,
             Source::Windows => Piece::Singly(rows),

@@ -62,6 +62,24 @@ pub(crate) fn compare() -> Verdict {
     ))
 }
 
+/// Bodies of one random row set in every form that can hold it, each of them also damaged.
+#[cfg(pelisafu)]
+pub(crate) fn for_each_drawn(
+    random: &mut Random,
+    each: &mut impl FnMut(&Reading) -> Result<(), String>,
+) -> Result<(), String> {
+    bodies::drawn(random).iter().try_for_each(|reading| {
+        each(reading)?;
+        bodies::damaged(random, reading, each)
+    })
+}
+
+/// One body by the original and by the plain rule.
+#[cfg(pelisafu)]
+pub(crate) fn compare_drawn(reading: &Reading) -> Result<(), String> {
+    compare_body(reading, &mut Tally::default())
+}
+
 /// The one body too large for every run.
 pub(crate) fn compare_largest() -> Verdict {
     let largest = long::largest();

@@ -28,7 +28,7 @@ pub(super) fn table() {
 }
 
 /// A ratio with the two times that it comes from, in units of so many nanoseconds.
-fn cell(ours: f64, theirs: f64, unit: f64) -> String {
+pub(super) fn cell(ours: f64, theirs: f64, unit: f64) -> String {
     format!("{:.2} ({:.2} / {:.2})", ours / theirs, ours / unit, theirs / unit)
 }
 

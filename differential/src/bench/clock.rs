@@ -8,16 +8,39 @@ use std::time::Duration;
 pub(super) const SAMPLES: usize = 41;
 const SAMPLE_TIME: Duration = Duration::from_micros(300);
 
-/// The median time of one call, in nanoseconds, with its answer used and given back. The call
-/// is repeated until a sample is long enough, which also warms it up.
+/// The median time of one call, in nanoseconds, with its answer used and given back.
 pub(super) fn median<T>(mut call: impl FnMut() -> T) -> f64 {
+    let repeats = repeats(&mut call);
+    middle((0..SAMPLES).map(|_| each(&mut call, repeats)).collect())
+}
+
+/// The median times of two calls whose samples take turns, so that what disturbs one of them
+/// disturbs the other as much.
+#[cfg(pelisafu)]
+pub(super) fn medians<T, U>(
+    mut ours: impl FnMut() -> T,
+    mut theirs: impl FnMut() -> U,
+) -> (f64, f64) {
+    let (our_repeats, their_repeats) = (repeats(&mut ours), repeats(&mut theirs));
+    let turn = |_| (each(&mut ours, our_repeats), each(&mut theirs, their_repeats));
+    let (ours, theirs) = (0..SAMPLES).map(turn).unzip();
+    (middle(ours), middle(theirs))
+}
+
+/// How often a call is repeated until a sample is long enough, which also warms it up.
+fn repeats<T>(call: &mut impl FnMut() -> T) -> u32 {
     let mut repeats = 1;
-    while sample(&mut call, repeats) < SAMPLE_TIME {
+    while sample(call, repeats) < SAMPLE_TIME {
         repeats *= 2;
     }
-    let mut samples: Vec<f64> = (0..SAMPLES)
-        .map(|_| sample(&mut call, repeats).as_nanos() as f64 / f64::from(repeats))
-        .collect();
+    repeats
+}
+
+fn each<T>(call: &mut impl FnMut() -> T, repeats: u32) -> f64 {
+    sample(call, repeats).as_nanos() as f64 / f64::from(repeats)
+}
+
+fn middle(mut samples: Vec<f64>) -> f64 {
     samples.sort_by(f64::total_cmp);
     samples[SAMPLES / 2]
 }

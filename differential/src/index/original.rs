@@ -80,6 +80,14 @@ impl Seeds {
         seeds
     }
 
+    /// Pages alone, for the benchmark.
+    #[cfg(pelisafu)]
+    pub(crate) fn in_pages(rows: &[RowID], size: usize) -> Self {
+        let mut seeds = Self::default();
+        rows.chunks(size).for_each(|page| seeds.0.append_page(page));
+        seeds
+    }
+
     pub(crate) fn ends(&self) -> Vec<usize> {
         seed_ends(&self.0)
     }
@@ -108,6 +116,22 @@ pub(crate) fn plan(case: &Case) -> Result<Plan, No> {
             segment_ends: merged.segment_ends,
             offers,
         })
+    })
+}
+
+/// Planning of ordinals alone, for the benchmark.
+#[cfg(pelisafu)]
+pub(crate) fn encode_ordinals(row_count: u16, ordinals: &[u16]) -> Option<EncodedIdentitySet> {
+    EncodedIdentitySet::plan_ordinals(row_count, ordinals, usize::MAX).ok()
+}
+
+/// Planning of ordinals: tag, body and offers.
+#[cfg(pelisafu)]
+pub(crate) fn plan_ordinals(row_count: u16, ordinals: &[u16]) -> Result<(u8, Vec<u8>, u64), No> {
+    asserting(|| {
+        let before = pushes();
+        let encoded = encode_ordinals(row_count, ordinals).ok_or(No::Capacity)?;
+        Ok((encoded.codec(), encoded.body().to_vec(), pushes() - before))
     })
 }
 

@@ -1,7 +1,9 @@
 //! The calls of the static library, as include/pelisafu.h declares them, each behind a safe one.
 
+use super::memory::{Lent, LentMut};
+
 #[repr(C)]
-struct Checked {
+pub(super) struct Checked {
     number: u8,
     rows: u16,
 }
@@ -21,7 +23,7 @@ struct Selected {
 }
 
 #[repr(C)]
-struct Filled {
+pub(super) struct Filled {
     number: u8,
     written: usize,
 }
@@ -67,7 +69,13 @@ unsafe extern "C" {
         out: *mut u32,
         out_length: usize,
     ) -> Filled;
-    fn pelisafu_select(tag: u8, span: u32, body: *const u8, length: usize, ordinal: u16) -> Selected;
+    fn pelisafu_select(
+        tag: u8,
+        span: u32,
+        body: *const u8,
+        length: usize,
+        ordinal: u16,
+    ) -> Selected;
     fn pelisafu_walk(
         tag: u8,
         span: u32,
@@ -93,9 +101,9 @@ unsafe extern "C" {
         rows: *const u64,
         rows_length: usize,
     ) -> Gathered;
-    fn pelisafu_add_row(g: &mut Gathering, table: *mut u16, length: usize, row: u64) -> u8;
+    fn pelisafu_add_row(g: *mut Gathering, table: *mut u16, length: usize, row: u64) -> u8;
     fn pelisafu_add_page(
-        g: &mut Gathering,
+        g: *mut Gathering,
         table: *mut u16,
         length: usize,
         rows: *const u64,
@@ -107,7 +115,7 @@ unsafe extern "C" {
 pub(crate) type Told<T> = Result<Option<T>, u8>;
 
 /// A value that is not there is 0.
-fn told(number: u8, found: u8, value: u64) -> Told<u64> {
+pub(super) fn told(number: u8, found: u8, value: u64) -> Told<u64> {
     match (number, found, value) {
         (0, 1, value) => Ok(Some(value)),
         (0, 0, 0) => Ok(None),
@@ -117,13 +125,13 @@ fn told(number: u8, found: u8, value: u64) -> Told<u64> {
 }
 
 impl Checked {
-    fn told(self) -> Told<u64> {
+    pub(super) fn told(self) -> Told<u64> {
         told(self.number, u8::from(self.number == 0), u64::from(self.rows))
     }
 }
 
 impl Filled {
-    fn told(self) -> Told<u64> {
+    pub(super) fn told(self) -> Told<u64> {
         told(self.number, u8::from(self.number == 0), self.written as u64)
     }
 }
@@ -151,46 +159,51 @@ impl Body<'_> {
     #[inline]
     pub(crate) fn validate(self) -> Told<u64> {
         let Self { tag, span, bytes } = self;
-        unsafe { pelisafu_validate(tag, span, bytes.as_ptr(), bytes.len()) }.told()
+        let body = Lent::new(bytes);
+        unsafe { pelisafu_validate(tag, span, body.pointer(), bytes.len()) }.told()
     }
 
     #[inline]
     pub(crate) fn rank(self, position: u32) -> Told<u64> {
         let Self { tag, span, bytes } = self;
-        let answer = unsafe { pelisafu_rank(tag, span, bytes.as_ptr(), bytes.len(), position) };
+        let body = Lent::new(bytes);
+        let answer = unsafe { pelisafu_rank(tag, span, body.pointer(), bytes.len(), position) };
         told(answer.number, answer.found, u64::from(answer.ordinal))
     }
 
     #[inline]
     pub(crate) fn ranks(self, positions: &[u32], out: &mut [u32]) -> Told<u64> {
         let Self { tag, span, bytes } = self;
-        let (asked, count) = (positions.as_ptr(), positions.len());
-        let (room, length) = (out.as_mut_ptr(), out.len());
-        unsafe {
-            pelisafu_ranks(tag, span, bytes.as_ptr(), bytes.len(), asked, count, room, length)
-        }
-        .told()
+        let (count, room) = (positions.len(), out.len());
+        let (body, asked, mut out) = (Lent::new(bytes), Lent::new(positions), LentMut::new(out));
+        let (body, asked, out) = (body.pointer(), asked.pointer(), out.pointer());
+        unsafe { pelisafu_ranks(tag, span, body, bytes.len(), asked, count, out, room) }.told()
     }
 
     #[inline]
     pub(crate) fn select(self, ordinal: u16) -> Told<u64> {
         let Self { tag, span, bytes } = self;
-        let answer = unsafe { pelisafu_select(tag, span, bytes.as_ptr(), bytes.len(), ordinal) };
+        let body = Lent::new(bytes);
+        let answer = unsafe { pelisafu_select(tag, span, body.pointer(), bytes.len(), ordinal) };
         told(answer.number, answer.found, u64::from(answer.position))
     }
 
     #[inline]
     pub(crate) fn walk(self, from: u16, out: &mut [u32]) -> Told<u64> {
         let Self { tag, span, bytes } = self;
-        let (room, length) = (out.as_mut_ptr(), out.len());
-        unsafe { pelisafu_walk(tag, span, bytes.as_ptr(), bytes.len(), from, room, length) }.told()
+        let room = out.len();
+        let (body, mut out) = (Lent::new(bytes), LentMut::new(out));
+        let (body, out) = (body.pointer(), out.pointer());
+        unsafe { pelisafu_walk(tag, span, body, bytes.len(), from, out, room) }.told()
     }
 
     #[inline]
     pub(crate) fn segments(self, table: &mut [Record]) -> Told<u64> {
         let Self { tag, span, bytes } = self;
-        let (room, length) = (table.as_mut_ptr(), table.len());
-        unsafe { pelisafu_segments(tag, span, bytes.as_ptr(), bytes.len(), room, length) }.told()
+        let room = table.len();
+        let (body, mut table) = (Lent::new(bytes), LentMut::new(table));
+        let (body, table) = (body.pointer(), table.pointer());
+        unsafe { pelisafu_segments(tag, span, body, bytes.len(), table, room) }.told()
     }
 }
 
@@ -205,6 +218,11 @@ impl Gathered {
             }
         }
     }
+}
+
+/// A record that is lent.
+fn one(record: &mut Gathering) -> LentMut<'_, Gathering> {
+    LentMut::new(std::slice::from_mut(record))
 }
 
 /// The longest table that is also gathered into with the record lent.
@@ -229,15 +247,20 @@ impl Gathering {
     ) {
         let mut lent = self;
         let number = add(&mut lent, &mut table);
-        assert_eq!((number, lent, &table[..]), (answer.number, answer.record, after), "lent {self:?}");
+        assert_eq!(
+            (number, lent, &table[..]),
+            (answer.number, answer.record, after),
+            "lent {self:?}"
+        );
     }
 
     pub(crate) fn row(self, table: &mut [u16], row: u64) -> Result<Self, u8> {
         let before = (table.len() <= LENT).then(|| table.to_vec());
-        let answer = unsafe { pelisafu_gather_row(self, table.as_mut_ptr(), table.len(), row) };
+        let room = table.len();
+        let answer = unsafe { pelisafu_gather_row(self, LentMut::new(table).pointer(), room, row) };
         if let Some(before) = before {
             let add = |g: &mut Self, t: &mut [u16]| unsafe {
-                pelisafu_add_row(g, t.as_mut_ptr(), t.len(), row)
+                pelisafu_add_row(one(g).pointer(), LentMut::new(t).pointer(), room, row)
             };
             self.lent(before, add, &answer, table);
         }
@@ -245,13 +268,15 @@ impl Gathering {
     }
 
     pub(crate) fn page(self, table: &mut [u16], rows: &[u64]) -> Result<Self, u8> {
-        let (page, count) = (rows.as_ptr(), rows.len());
         let before = (table.len() <= LENT).then(|| table.to_vec());
-        let (room, length) = (table.as_mut_ptr(), table.len());
-        let answer = unsafe { pelisafu_gather_page(self, room, length, page, count) };
+        let (room, count) = (table.len(), rows.len());
+        let rows = Lent::new(rows);
+        let page = rows.pointer();
+        let answer =
+            unsafe { pelisafu_gather_page(self, LentMut::new(table).pointer(), room, page, count) };
         if let Some(before) = before {
             let add = |g: &mut Self, t: &mut [u16]| unsafe {
-                pelisafu_add_page(g, t.as_mut_ptr(), t.len(), page, count)
+                pelisafu_add_page(one(g).pointer(), LentMut::new(t).pointer(), room, page, count)
             };
             self.lent(before, add, &answer, table);
         }

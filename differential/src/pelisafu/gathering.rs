@@ -7,28 +7,37 @@ use crate::index::original::Seeds;
 use crate::random::{Random, SHAPES, SOURCES, case, gathered};
 
 const ROUNDS: usize = 300;
+const REFUSALS: usize = 400_000;
 const LARGE_EVERY: usize = 60;
 
 /// What stands in a table before anything is written to it.
 const UNTOUCHED: u16 = 0xA5F0;
 
 pub(super) fn compare() -> Result<String, String> {
-    let mut random = Random::new(7);
+    compare_rounds(&mut Random::new(7), ROUNDS, REFUSALS)
+}
+
+/// So many rounds over every shape and source, and so many tries at refusals.
+pub(super) fn compare_rounds(
+    random: &mut Random,
+    rounds: usize,
+    tries: usize,
+) -> Result<String, String> {
     let (mut cases, mut seeds) = (0, 0);
-    for round in 0..ROUNDS {
+    for round in 1..=rounds {
         for shape in SHAPES {
             for source in SOURCES {
                 let bound = if round % LARGE_EVERY == 0 { 20_000 } else { 200 };
                 let count = 1 + random.below(bound) as usize;
-                let drawn = case(&mut random, shape, count);
-                let drawn = gathered(&mut random, source, drawn);
+                let drawn = case(random, shape, count);
+                let drawn = gathered(random, source, drawn);
                 let told = |what| format!("{what}; gathering {drawn:?}");
                 seeds += compare_seeds(&drawn).map_err(told)?;
                 cases += 1;
             }
         }
     }
-    let refusals = compare_refusals(&mut random)?;
+    let refusals = compare_refusals(random, tries)?;
     Ok(format!(
         "{cases} gatherings with {seeds} seeds alike, {refusals} refused as document 01 says"
     ))
@@ -116,11 +125,11 @@ fn number(g: Gathering, room: usize, rows: &[u64], entries_after: usize) -> u8 {
 }
 
 /// Records, rows and pages on the bounds of each test: the number, and that the table stays as it was.
-fn compare_refusals(random: &mut Random) -> Result<usize, String> {
+fn compare_refusals(random: &mut Random, tries: usize) -> Result<usize, String> {
     const COUNTS: [usize; 9] = [0, 1, 2, 3, 4, 65_533, 65_534, 65_535, usize::MAX];
     const ROWS: [u64; 8] = [0, 1, 4_095, 4_096, 4_097, 70_000, u64::MAX - 1, u64::MAX];
     let mut refused = 0;
-    for _ in 0..400_000 {
+    for _ in 0..tries {
         let mut count = || COUNTS[random.below(9) as usize];
         let (entries, total) = (count(), count());
         let mut row = || ROWS[random.below(8) as usize];

@@ -10,7 +10,7 @@ use crate::reading::{Reading, for_each, questions};
 const SINGLE_WORK: usize = 1 << 18;
 
 #[derive(Default)]
-struct Tally {
+pub(super) struct Tally {
     accepted: usize,
     refused: usize,
     ranks: usize,
@@ -22,14 +22,20 @@ struct Tally {
 pub(super) fn compare() -> Result<String, String> {
     let mut tally = Tally::default();
     for_each(&mut |reading| compare_body(reading, &mut tally))?;
-    let Tally { accepted, refused, ranks, selects, walks, entries } = tally;
-    Ok(format!(
-        "{accepted} bodies accepted alike with {ranks} ranks, {selects} selects, {walks} walks and {entries} \
-         directory entries, {refused} refused alike by every call"
-    ))
+    Ok(tally.summary())
 }
 
-fn compare_body(reading: &Reading, tally: &mut Tally) -> Result<(), String> {
+impl Tally {
+    pub(super) fn summary(&self) -> String {
+        let Self { accepted, refused, ranks, selects, walks, entries } = self;
+        format!(
+            "{accepted} bodies accepted alike with {ranks} ranks, {selects} selects, {walks} walks and {entries} \
+             directory entries, {refused} refused alike by every call"
+        )
+    }
+}
+
+pub(super) fn compare_body(reading: &Reading, tally: &mut Tally) -> Result<(), String> {
     let body = Body { tag: reading.tag, span: reading.span, bytes: &reading.body };
     let compared = asserting(|| {
         Ok(match Accepted::new(reading.tag, reading.span, &reading.body) {
@@ -41,7 +47,11 @@ fn compare_body(reading: &Reading, tally: &mut Tally) -> Result<(), String> {
     compared.map_err(|what| reading.told(&what))
 }
 
-fn same<T: PartialEq + std::fmt::Debug>(what: &str, ours: T, right: T) -> Result<(), String> {
+pub(super) fn same<T: PartialEq + std::fmt::Debug>(
+    what: &str,
+    ours: T,
+    right: T,
+) -> Result<(), String> {
     if ours == right { Ok(()) } else { Err(format!("{what} gives {ours:?}, not {right:?}")) }
 }
 

@@ -1,6 +1,5 @@
-//! Document 01's planning: refusals 1 to 4 and 6, the choice, and the body. Of refusal 4 only
-//! the last end is tested, since seeds are always gathered here; refusals 5 and 7 are about
-//! memory that is not lent here.
+//! Document 01's planning: refusals 1 to 4 and 6, the choice, and the body. Refusals 5 and 7
+//! are about memory that is not lent here.
 
 use super::SEGMENTED;
 use super::bodies::{part, segmented, whole};
@@ -8,17 +7,34 @@ use super::costs::{Cost, Stats, cheapest_local, depth, whole_forms};
 use super::merging::{Segment, gather, merge, seed_segments};
 use crate::case::{Case, Plan};
 
+/// Planning with seeds gathered as the case says, or with windows.
 pub(crate) fn plan(case: &Case) -> Result<Plan, u8> {
     refuse(case)?;
+    let ends = gather(case);
+    refuse_ends(&case.rows, &ends)?;
+    plan_from(case, &ends)
+}
+
+/// Tests 1 to 4 where a table of seed ends is given: the ends, of windows if the table is empty.
+#[cfg(pelisafu)]
+pub(crate) fn seed_ends(case: &Case, table: &[u16]) -> Result<Vec<usize>, u8> {
+    refuse(case)?;
+    if table.is_empty() {
+        let windows = Case::new(case.start, case.end, case.rows.iter().copied());
+        return Ok(gather(&windows));
+    }
+    let ends: Vec<usize> = table.iter().map(|end| usize::from(*end)).collect();
+    refuse_ends(&case.rows, &ends)?;
+    Ok(ends)
+}
+
+/// Planning once tests 1 to 4 are passed.
+pub(crate) fn plan_from(case: &Case, ends: &[usize]) -> Result<Plan, u8> {
     let span = case.end - case.start;
     let stats = Stats::of(&case.rows);
     let forms = whole_forms(&stats, case.start, span);
     let form = forms.iter().min().expect("a list is always there");
-    let ends = gather(case);
-    if ends.last() != Some(&case.rows.len()) {
-        return Err(4);
-    }
-    let (segments, offers) = merge(seed_segments(&case.rows, &ends));
+    let (segments, offers) = merge(seed_segments(&case.rows, ends));
     let split = segmented_cost(&segments);
     let taken = split < (form.bytes, 1, form.depth, form.words, form.order);
     let bytes = if taken { split.0 } else { form.bytes };
@@ -49,6 +65,17 @@ fn refuse(case: &Case) -> Result<(), u8> {
         return Err(3);
     }
     Ok(())
+}
+
+/// Test 4.
+fn refuse_ends(rows: &[u64], ends: &[usize]) -> Result<(), u8> {
+    let rising = ends[0] >= 1 && ends.windows(2).all(|pair| pair[0] < pair[1]);
+    if !rising || ends[ends.len() - 1] != rows.len() {
+        return Err(4);
+    }
+    let starts = std::iter::once(&0).chain(ends);
+    let narrow = |(start, end): (&usize, &usize)| rows[*end - 1] - rows[*start] <= 65_534;
+    if starts.zip(ends).all(narrow) { Ok(()) } else { Err(4) }
 }
 
 /// (bytes, segments, depth, words, order), as document 01 compares them.

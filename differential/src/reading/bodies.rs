@@ -6,6 +6,8 @@ use crate::plain::bodies::{Part, payload, segmented, whole};
 use crate::plain::costs::{Cost, Stats, whole_forms};
 use crate::plain::{BITMAP, DENSE, LIST16, MISSING, RUNS16, RUNS32, SEGMENTED};
 use crate::random::Random;
+#[cfg(pelisafu)]
+use crate::random::{SHAPES, case};
 
 /// Bodies above this are left to `long`.
 const LONGEST: u64 = 1 << 20;
@@ -26,6 +28,19 @@ pub(super) fn for_each(
         }
     }
     Ok(())
+}
+
+/// Bodies of one random row set in every form that can hold it.
+#[cfg(pelisafu)]
+pub(super) fn drawn(random: &mut Random) -> Vec<Reading> {
+    let shape = SHAPES[random.below(SHAPES.len() as u64) as usize];
+    let count = 1 + random.below(120) as usize;
+    let drawn = case(random, shape, count);
+    let positions: Vec<u64> = drawn.rows.iter().map(|row| row - drawn.start).collect();
+    let span = (drawn.end - drawn.start) as u32;
+    let mut all = whole_bodies(&positions, span);
+    all.extend([1, 7, 300].into_iter().filter_map(|rows| segmented_body(&positions, span, rows)));
+    all
 }
 
 /// Row sets that lean on the ends of a span.
@@ -95,8 +110,8 @@ pub(super) fn part(turn: usize, rows: &[u64]) -> Option<Part> {
     })
 }
 
-/// The same reading with a byte changed, bytes cut off or added, another tag or span. Short
-/// bodies are damaged everywhere, long ones here and there.
+/// The same reading with a byte changed, a bit flipped, two fields swapped, bytes cut off or
+/// added, another tag or span. Short bodies are damaged everywhere, long ones here and there.
 pub(super) fn damaged(
     random: &mut Random,
     reading: &Reading,
@@ -113,6 +128,15 @@ pub(super) fn damaged(
             damage(&|r| r.body[at] = r.body[at].wrapping_add(change))?;
         }
         damage(&|r| r.body.truncate(at))?;
+    }
+    for _ in 0..4 {
+        let mut near = |bound: usize| random.below(bound.clamp(1, 64) as u64) as usize;
+        let length = reading.body.len();
+        let (one, other, bit) = (near(length / 2), near(length / 2), near(8));
+        if length >= 2 {
+            damage(&|r| (0..2).for_each(|byte| r.body.swap(2 * one + byte, 2 * other + byte)))?;
+            damage(&|r| r.body[one] ^= 1 << bit)?;
+        }
     }
     for added in [1, 2, 4, 16] {
         damage(&|r| r.body.extend(vec![0; added]))?;
