@@ -31,6 +31,7 @@ test:
 
 soak:
 	differential/run soak $(SECONDS) $(SEED)
+	fuzz/run 30 $(SEED)
 
 bench:
 	differential/run bench
