@@ -1,9 +1,10 @@
-/* Writes bodies of every form as inputs of the harness, one to a file: `seeds FOLDER`. Row sets are planned by Pelisafu, so
- * that each body is a good one; a form that no row set here comes to is an error. */
+/* Writes bodies of every form as inputs of the harness, one to a file: `seeds FOLDER`. Most are planned by Pelisafu from row
+ * sets; a form that none of these comes to is an error. A few, which no planner takes, are put together here. */
 #include "pelisafu.h"
 
 #include <stdio.h>
 #include <stdlib.h>
+#include <string.h>
 
 #define ROWS 4096u
 
@@ -44,6 +45,55 @@ static void groups(uint32_t span, uint64_t first, unsigned many, unsigned length
     plan(span, count);
 }
 
+/* A segment of a body that is put together: from start on, so many bytes of payload. */
+typedef struct {
+    uint16_t start, span, count;
+    uint8_t tag, length;
+    const char *payload;
+} part;
+
+/* Parts of every form, each beginning where the one before it ends. */
+static const part every_form[] = {
+    {0, 3, 3, 1, 0, ""},
+    {3, 10, 2, 3, 4, "\1\0\7\0"},
+    {13, 8, 7, 7, 2, "\4\0"},
+    {21, 9, 4, 4, 12, "\0\0\2\0\0\0\4\0\2\0\2\0"},
+    {30, 64, 32, 6, 10, "\0\0UUUUUUUU"},
+};
+
+/* Runs with starts of four bytes, and a plain list with values of four: no part has these. */
+static const part wide_runs[] = {{0, 5, 2, 5, 8, "\1\0\0\0\2\0\0\0"}};
+static const part wide_list[] = {{0, 5, 2, 2, 8, "\1\0\0\0\2\0\0\0"}};
+
+static void put16(uint8_t *at, unsigned value) {
+    at[0] = value & 255;
+    at[1] = value >> 8 & 255;
+}
+
+/* The parts from this position on, as one body, which is accepted or not. */
+static void segmented(uint32_t span, uint32_t from, const part *parts, unsigned many, int good) {
+    uint8_t body[256] = {0};
+    unsigned count = 0, offset = 4 + 16 * many;
+    for (unsigned i = 0; i < many; i++) {
+        uint8_t *entry = body + 4 + 16 * i;
+        put16(entry, from + parts[i].start);
+        put16(entry + 2, (from + parts[i].start) >> 16);
+        put16(entry + 4, parts[i].span);
+        put16(entry + 6, parts[i].count);
+        put16(entry + 8, count);
+        put16(entry + 10, offset);
+        put16(entry + 12, parts[i].length);
+        entry[14] = parts[i].tag;
+        memcpy(body + offset, parts[i].payload, parts[i].length);
+        count += parts[i].count;
+        offset += parts[i].length;
+    }
+    put16(body, count);
+    put16(body + 2, many);
+    if ((pelisafu_validate(9, span, body, offset).number == 0) != good) fail("a body put together");
+    write_input(9, span, body, offset);
+}
+
 int main(int count, char **arguments) {
     static const uint32_t spans[] = {300, 4097, 65535, 65536, 65537, 1000000, 4294967295u};
     if (count != 2) fail("usage: seeds FOLDER");
@@ -67,7 +117,12 @@ int main(int count, char **arguments) {
         groups(span, 1, 3, 90, 7, span / 3);            /* three parts of two forms and more */
         groups(span, 3, 3, 40, 2, span / 3);
         groups(span, 0, 12, 1, 0, span / 13);
+        segmented(span, span - 94, every_form, 5, 1);
+        segmented(span, 0, wide_runs, 1, 0);
+        segmented(span, 0, wide_list, 1, 0);
     }
+    write_input(4, 65536, (const uint8_t *)"\6\0\1\0\xFA\xFF\6\0\0\0", 10);   /* two-byte runs end at 65,536 */
+    write_input(4, 65540, (const uint8_t *)"\6\0\1\0\xFA\xFF\6\0\0\0", 10);
     for (unsigned tag = 1; tag <= 9; tag++) {
         if (!written[tag]) fprintf(stderr, "seeds: none of tag %u\n", tag);
         if (!written[tag]) return 1;
