@@ -38,4 +38,4 @@ bench:
 	@if [ -x dist/lister ]; then tests/listing/bench; fi
 
 clean:
-	rm -rf target dist differential/target rust/pelisafu/target
+	rm -rf target dist differential/target fuzz/target rust/pelisafu/target
