@@ -8,8 +8,12 @@
  * aligned for its element, and no slice that is written may overlap another one of the same call.
  *
  * Refusals, by number:
- *    2  more than 65,535 rows
- *    3  rows that do not rise
+ *    1  end before start, span 0, or span above 4,294,967,295
+ *    2  no rows, or more than 65,535
+ *    3  rows that do not rise, or are outside of the coverage
+ *    4  seed ends that do not fit the rows
+ *    5  a workspace of less than 24 words for each seed
+ *    6  a body longer than the limit or than 65,535 bytes
  *    7  an output that is too short
  *    8  a body that is not accepted
  *   11  a table of seed ends that is too short
@@ -70,6 +74,29 @@ struct pelisafu_gathering {
     uint8_t number;
     bool found;
 };
+
+/* A plan: the tag and the bytes of its body, the segments after merging, and the offers that merging took. */
+typedef struct {
+    uint8_t number, tag;
+    uint16_t length, segments;
+    uint32_t offers;
+} pelisafu_plan;
+
+/* ---- planning: rows to the shortest body */
+
+/* Plans rows, strictly rising in [start, end), into the front of out: the shortest body that document 01's rules give.
+ * Its span is end - start. seeds has the ends of the seeds, as gathering leaves them; without any, rows are taken in
+ * 4,096-windows of absolute row number. work is the workspace, of 24 words or more for each seed. Refuses: 1, 2, 3, 4, 5, 6, 7,
+ * in that order. Refusals 1 to 5 leave the workspace as it was; 6, 7 and a plan leave its first 24 words for each seed
+ * zero, and the rest as it was. */
+pelisafu_plan pelisafu_plan_rows(uint64_t start, uint64_t end, const uint64_t *rows, size_t rows_len,
+                                 const uint16_t *seeds, size_t seeds_len, size_t limit,
+                                 uint32_t *work, size_t work_len, uint8_t *out, size_t out_len);
+
+/* The same for ordinals below a row count, which are their own positions, in windows of 4,096. Refuses: 1, 2, 3, 5, 6, 7,
+ * in that order; the workspace as above. */
+pelisafu_plan pelisafu_plan_ordinals(uint16_t row_count, const uint16_t *ordinals, size_t ordinals_len, size_t limit,
+                                     uint32_t *work, size_t work_len, uint8_t *out, size_t out_len);
 
 /* The number of rows of an accepted body. Refuses: 8. */
 struct pelisafu_answer pelisafu_validate(uint8_t tag, uint32_t span, const uint8_t *body, size_t body_length);

@@ -8,6 +8,11 @@ use rowset::Entry;
 use rowset::Filled;
 use rowset::Ranked;
 use rowset::Selected;
+
+mod plans;
+
+pub use plans::pelisafu_plan_ordinals;
+pub use plans::pelisafu_plan_rows;
 ghost use mathlib.Core.Path.{_≡_};
 ghost use lib.ListN.{length};
 ghost use Rattle.model.specs.Answers.{refused};
@@ -15,6 +20,16 @@ ghost use Rattle.rowset.specs.Calls.{checkedOf, rankedOf, selectedOf, filledOf,
 ghost use Rattle.tables.specs.Tables.{segmentsAnswer, segmentsLeft};
 ghost use Rattle.gather.specs.Gather.{answerOf, rowAnswer, rowTable, pageAnswer, pageTable};
 ghost use Rattle.pelisafu.specs.Shown.{shown, shownEntry, shownRecord, recordOf};
+
+// The refusal or 0, and the form, bytes of the body, segments after merging and offers; 0 each where the call was refused.
+#[repr(C)]
+pub struct Plan {
+    pub number: u8,
+    pub tag: u8,
+    pub length: u16,
+    pub segments: u16,
+    pub offers: u32,
+}
 
 // One value, or none.
 #[repr(C)]
