@@ -1,29 +1,32 @@
-/* Pelisafu: row sets in compact bytes. The C interface of libpelisafu.a.
+/* Pelisafu: row sets in compact bytes. The C interface of libpelisafu.a, for C and C++.
  *
- * A row set is a rising list of positions below a span. A body is its bytes, in one of nine forms that a tag names.
- * No call asks anything of its input: a body may be any bytes, and each reading call checks it first. No call
- * allocates, keeps a pointer after it has returned, or has a state of its own.
+ * A row set is a rising list of positions below a span. A body is its bytes, in one of nine forms that a tag from 1 to 9
+ * names. Tag, span and body go together; the library keeps none of them. No call asks anything of its numbers and
+ * bytes: each tests what it was given, and refuses it by number. No call allocates, keeps a pointer after it has
+ * returned, or has a state of its own, so calls from several threads need no lock.
  *
- * A slice is a pointer and then the number of its elements. The pointer is never null, also where that number is 0, is
- * aligned for its element, and no slice that is written may overlap another one of the same call.
+ * A slice is a pointer and then the number of its elements. A null pointer with length 0 is an empty slice. A pointer
+ * is aligned for its element, and a slice that is written overlaps no other slice of the same call.
  *
- * Refusals, by number:
+ * Every answer has a number: 0, or that of the refusal. A value that there is not, be it that the call was refused or that
+ * nothing was found, is 0. The refusals:
  *    1  end before start, span 0, or span above 4,294,967,295
  *    2  no rows, or more than 65,535
- *    3  rows that do not rise, or are outside of the coverage
- *    4  seed ends that do not fit the rows
+ *    3  rows that do not rise, or are outside of the coverage; in gathering: not above the last row
+ *    4  seed ends that are not rising, do not end at the row count, or have a seed whose last row is more than 65,534
+ *       above its first
  *    5  a workspace of less than 24 words for each seed
  *    6  a body longer than the limit or than 65,535 bytes
  *    7  an output that is too short
- *    8  a body that is not accepted
- *   11  a table of seed ends that is too short
+ *    8  a body that is not accepted: its tag, its bytes or its span
+ *   11  a table of seed ends without room for the new ones
  *   12  a record that gathering cannot have come to
- * A refused call leaves every slice as it was. Where two refusals apply, document 01 says which is answered.
+ * Where several apply, the one that comes first in the order given at the call is answered. A refused call leaves every
+ * output, table and record as it was. An output past what an answer says was written stays as it was, too.
  */
 #ifndef PELISAFU_H
 #define PELISAFU_H
 
-#include <stdbool.h>
 #include <stddef.h>
 #include <stdint.h>
 
@@ -31,49 +34,7 @@
 extern "C" {
 #endif
 
-/* One value or none. number: 0, or the refusal. found: whether there is a value; without one, value is 0. */
-struct pelisafu_answer {
-    uint64_t value;
-    uint8_t number;
-    bool found;
-};
-
-/* An entry of the directory of a segmented body: where the segment starts, its span and rows, the rows before it,
- * where its payload begins in the body, the payload's bytes, and its form. number and found as above. */
-struct pelisafu_part {
-    uint32_t start;
-    uint16_t span;
-    uint16_t count;
-    uint16_t ordinal;
-    uint16_t offset;
-    uint16_t length;
-    uint8_t tag;
-    uint8_t number;
-    bool found;
-};
-
-/* The same as it stands in a table that is lent. A table has 16 bytes for each entry; the last one of them is not to be read. */
-struct pelisafu_entry {
-    uint32_t start;
-    uint16_t span;
-    uint16_t count;
-    uint16_t ordinal;
-    uint16_t offset;
-    uint16_t length;
-    uint8_t tag;
-};
-
-/* Where gathering stands: entries of the table in use, rows gathered, first row of the last seed, last row. All 0 to
- * begin with. number and found as above, in answers; in what is handed over they are not read. In a refusal the other
- * fields are 0, so keep the record that was handed over. */
-struct pelisafu_gathering {
-    size_t entries;
-    size_t rows;
-    uint64_t first;
-    uint64_t last;
-    uint8_t number;
-    bool found;
-};
+/* ---- answers */
 
 /* A plan: the tag and the bytes of its body, the segments after merging, and the offers that merging took. */
 typedef struct {
@@ -81,6 +42,51 @@ typedef struct {
     uint16_t length, segments;
     uint32_t offers;
 } pelisafu_plan;
+
+/* How many rows a body has. */
+typedef struct {
+    uint8_t number;
+    uint16_t rows;
+} pelisafu_checked;
+
+/* found: 1 where the position is a row, and then its ordinal, counted from 0; else 0. */
+typedef struct {
+    uint8_t number, found;
+    uint16_t ordinal;
+} pelisafu_ranked;
+
+/* found: 1 where there is a row of this ordinal, and then its position; else 0. */
+typedef struct {
+    uint8_t number, found;
+    uint32_t position;
+} pelisafu_selected;
+
+/* How many elements were written, from the front of the output on. */
+typedef struct {
+    uint8_t number;
+    size_t written;
+} pelisafu_filled;
+
+/* Where gathering stands: entries of the table in use, rows gathered, first row of the last seed, last row. All 0 to
+ * begin with. */
+typedef struct {
+    size_t entries, rows;
+    uint64_t first, last;
+} pelisafu_gatherer;
+
+/* The record after the call: where the call was refused, the one that was handed over. */
+typedef struct {
+    uint8_t number;
+    pelisafu_gatherer record;
+} pelisafu_gathered;
+
+/* An entry of the directory of a segmented body: where the segment starts, its span and rows, the rows before it, where
+ * its payload begins in the body, the payload's bytes, and its form. */
+typedef struct {
+    uint32_t start;
+    uint16_t span, count, ordinal, offset, length;
+    uint8_t tag;
+} pelisafu_segment;
 
 /* ---- planning: rows to the shortest body */
 
@@ -98,42 +104,47 @@ pelisafu_plan pelisafu_plan_rows(uint64_t start, uint64_t end, const uint64_t *r
 pelisafu_plan pelisafu_plan_ordinals(uint16_t row_count, const uint16_t *ordinals, size_t ordinals_len, size_t limit,
                                      uint32_t *work, size_t work_len, uint8_t *out, size_t out_len);
 
+/* ---- reading: each call checks the body first */
+
 /* The number of rows of an accepted body. Refuses: 8. */
-struct pelisafu_answer pelisafu_validate(uint8_t tag, uint32_t span, const uint8_t *body, size_t body_length);
+pelisafu_checked pelisafu_validate(uint8_t tag, uint32_t span, const uint8_t *body, size_t body_len);
 
 /* The ordinal of a position, where it is a row. Refuses: 8. */
-struct pelisafu_answer pelisafu_rank(uint8_t tag, uint32_t span, const uint8_t *body, size_t body_length,
-                                     uint32_t position);
+pelisafu_ranked pelisafu_rank(uint8_t tag, uint32_t span, const uint8_t *body, size_t body_len, uint32_t position);
 
-/* For each of the positions its ordinal, or 4,294,967,295 where it is no row, into the front of out. Answers how many.
- * The body is checked once. Refuses: 8, then 7 where out is shorter than positions. */
-struct pelisafu_answer pelisafu_ranks(uint8_t tag, uint32_t span, const uint8_t *body, size_t body_length,
-                                      const uint32_t *positions, size_t positions_length,
-                                      uint32_t *out, size_t out_length);
+/* For each of the positions its ordinal, or 4,294,967,295 where it is no row, into the front of out. Answers how many. The
+ * body is checked once. Refuses: 8, then 7 where out is shorter than positions. */
+pelisafu_filled pelisafu_ranks(uint8_t tag, uint32_t span, const uint8_t *body, size_t body_len,
+                               const uint32_t *positions, size_t positions_len, uint32_t *out, size_t out_len);
 
 /* The position of an ordinal, where there is one. Refuses: 8. */
-struct pelisafu_answer pelisafu_select(uint8_t tag, uint32_t span, const uint8_t *body, size_t body_length,
-                                       uint16_t ordinal);
+pelisafu_selected pelisafu_select(uint8_t tag, uint32_t span, const uint8_t *body, size_t body_len, uint16_t ordinal);
 
 /* The positions from an ordinal on, as many as remain or fit, into the front of out. Answers how many. Refuses: 8. */
-struct pelisafu_answer pelisafu_walk(uint8_t tag, uint32_t span, const uint8_t *body, size_t body_length,
-                                     uint16_t from, uint32_t *out, size_t out_length);
+pelisafu_filled pelisafu_walk(uint8_t tag, uint32_t span, const uint8_t *body, size_t body_len, uint16_t from,
+                              uint32_t *out, size_t out_len);
 
-/* The i-th entry of the directory: none for another tag than 9, or past the end. Refuses: 8. */
-struct pelisafu_part pelisafu_segment(uint8_t tag, uint32_t span, const uint8_t *body, size_t body_length, size_t i);
+/* All entries of the directory, in order, into the front of table. Answers how many: 0 for another tag than 9. Of the 16
+ * bytes of an entry the last one is padding. Refuses: 8, then 7 where the table is shorter than the directory. */
+pelisafu_filled pelisafu_segments(uint8_t tag, uint32_t span, const uint8_t *body, size_t body_len,
+                                  pelisafu_segment *table, size_t table_len);
 
-/* All entries of the directory, in order, into the front of table. Answers how many: 0 for another tag than 9. What stands
- * in the table past them stays. Refuses: 8, then 7 where the table is shorter than the number of segments. */
-struct pelisafu_answer pelisafu_segments(uint8_t tag, uint32_t span, const uint8_t *body, size_t body_length,
-                                         struct pelisafu_entry *table, size_t table_length);
+/* ---- gathering: the ends of seeds, while rows arrive */
 
-/* One row more: the record with it in, and its seed's end in the table. Refuses: 12, 3, 2, 11, in that order. */
-struct pelisafu_gathering pelisafu_gather_row(struct pelisafu_gathering so_far, uint16_t *table, size_t table_length,
-                                              uint64_t row);
+/* One row more: it joins the last seed where it is in the 4,096-window of that seed's first row, else it is a new seed.
+ * Its seed's end, which is the rows gathered so far, goes to that seed's entry of the table; no other entry is read or
+ * changed. Refuses: 12, 3, 2, 11, in that order. */
+pelisafu_gathered pelisafu_gather_row(pelisafu_gatherer record, uint16_t *table, size_t table_len, uint64_t row);
 
-/* A page of rows: one seed where its last row is at most 65,534 above its first, else row by row. Refuses: as above. */
-struct pelisafu_gathering pelisafu_gather_page(struct pelisafu_gathering so_far, uint16_t *table, size_t table_length,
-                                               const uint64_t *rows, size_t rows_length);
+/* A page of rows: one new seed where its last row is at most 65,534 above its first, else row by row. An empty page
+ * changes nothing. Refuses: 12, 3, 2, 11, in that order. */
+pelisafu_gathered pelisafu_gather_page(pelisafu_gatherer record, uint16_t *table, size_t table_len,
+                                       const uint64_t *rows, size_t rows_len);
+
+/* The same two with the record lent to be changed: the number alone is answered, and the record after stands in *record. */
+uint8_t pelisafu_add_row(pelisafu_gatherer *record, uint16_t *table, size_t table_len, uint64_t row);
+uint8_t pelisafu_add_page(pelisafu_gatherer *record, uint16_t *table, size_t table_len,
+                          const uint64_t *rows, size_t rows_len);
 
 #ifdef __cplusplus
 }

@@ -14,7 +14,8 @@ pub use lent::add_row;
 pub use lent::lend_page;
 pub use lent::lend_row;
 
-// Entries of the table in use, rows gathered, first row of the last seed, last row.
+// Entries of the table in use, rows gathered, first row of the last seed, last row. Hosts lend it, so its layout is C's.
+#[repr(C)]
 pub struct Gatherer {
     pub entries: usize,
     pub rows: usize,

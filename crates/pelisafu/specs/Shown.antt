@@ -1,29 +1,49 @@
--- What the structs of the C interface say: the number of the refusal, or 0, and the values where there are any.
+-- The answers of document 01 as the structs of the C interface: the number of the refusal or 0, and each value, 0 where there is none.
 -- Assumes nothing.
-use mathlib.Core.Bool.{Bool}
 use mathlib.Core.List.{List, [], _∷_}
 use Prim.Native.Nat.{ℕ}
-use Rattle.model.specs.Tests.{pick}
-use Rattle.model.specs.Answers as model
+use lib.ListN.{getD}
+use Rattle.model.specs.Answers.{Answer}
 use Rattle.gather.specs.declared.Gatherer.{Gatherer}
-use Rattle.gather.specs.Gather as gather
-use Rattle.pelisafu.specs.declared.Answer.{Answer}
-use Rattle.pelisafu.specs.declared.Part.{Part}
-use Rattle.pelisafu.specs.declared.Gathering.{Gathering}
+use Rattle.gather.specs.declared.lent.Added.{Added}
+use Rattle.gather.specs.declared.lent.Added.the-variants as added
+use Rattle.pelisafu.specs.declared.Plan.{Plan}
+use Rattle.pelisafu.specs.declared.Checked.{Checked}
+use Rattle.pelisafu.specs.declared.Ranked.{Ranked}
+use Rattle.pelisafu.specs.declared.Selected.{Selected}
+use Rattle.pelisafu.specs.declared.Filled.{Filled}
+use Rattle.pelisafu.specs.declared.Gathered.{Gathered}
 
--- values that are there or not
-unfoldable pub saying : ℕ → Bool → List ℕ → model.Answer
-saying n found vs = record { number = n; values = pick found vs [] }
+-- the i-th value of an answer, 0 where it has none
+unfoldable pub valueAt : Answer → ℕ → ℕ
+valueAt a i = getD (a .values) i 0
 
-unfoldable pub shown : Answer → model.Answer
-shown a = saying (a .number) (a .found) (a .value ∷ [])
+-- 1 where there is a value, 0 where there is none
+unfoldable pub someIn : List ℕ → ℕ
+someIn [] = 0
+someIn (v ∷ vs) = 1
 
-unfoldable pub shownEntry : Part → model.Answer
-shownEntry p = saying (p .number) (p .found) (p .start ∷ p .span ∷ p .count ∷ p .ordinal ∷ p .offset ∷ p .length ∷ p .tag ∷ [])
+-- tag, body length, segments after merging, offers
+unfoldable pub shownPlan : Answer → Plan
+shownPlan a = record { number = a .number; tag = valueAt a 0; length = valueAt a 1; segments = valueAt a 2; offers = valueAt a 3 }
 
--- the record that a host hands over
-unfoldable pub recordOf : Gathering → Gatherer
-recordOf g = record { entries = g .entries; rows = g .rows; first = g .first; last = g .last }
+unfoldable pub shownChecked : Answer → Checked
+shownChecked a = record { number = a .number; rows = valueAt a 0 }
 
-unfoldable pub shownRecord : Gathering → model.Answer
-shownRecord g = saying (g .number) (g .found) (gather.valuesOf (recordOf g))
+unfoldable pub shownRanked : Answer → Ranked
+shownRanked a = record { number = a .number; found = someIn (a .values); ordinal = valueAt a 0 }
+
+unfoldable pub shownSelected : Answer → Selected
+shownSelected a = record { number = a .number; found = someIn (a .values); position = valueAt a 0 }
+
+unfoldable pub shownFilled : Answer → Filled
+shownFilled a = record { number = a .number; written = valueAt a 0 }
+
+-- the number, beside the record that the call leaves
+unfoldable pub shownGathered : Answer → Gatherer → Gathered
+shownGathered a after = record { number = a .number; «record» = after }
+
+-- the number of a call on a lent record
+unfoldable pub numberOf : Added → ℕ
+numberOf added.Done = 0
+numberOf (added.Refused k) = k

@@ -5,7 +5,7 @@ ghost use mathlib.Core.List.{[]};
 ghost use lib.ListN.{length};
 ghost use Rattle.planning.specs.Planning.{planOf, planOut, planWork};
 ghost use Rattle.plan.specs.Plans.{plannedOf};
-ghost use Rattle.pelisafu.specs.Plans.{shownPlan};
+ghost use Rattle.pelisafu.specs.Shown.{shownPlan};
 
 fn of_planned(c: plan::Planned) -> Plan
     ensures { λ r. ⌜ r ≡ shownPlan (plannedOf c) ⌝ }

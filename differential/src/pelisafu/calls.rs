@@ -1,25 +1,29 @@
 //! The calls of the static library, as include/pelisafu.h declares them, each behind a safe one.
 
-#[derive(Clone, Copy)]
 #[repr(C)]
-struct Answer {
-    value: u64,
+struct Checked {
     number: u8,
-    found: bool,
+    rows: u16,
 }
 
-#[derive(Clone, Copy)]
 #[repr(C)]
-struct Part {
-    start: u32,
-    span: u16,
-    count: u16,
-    ordinal: u16,
-    offset: u16,
-    length: u16,
-    tag: u8,
+struct Ranked {
     number: u8,
-    found: bool,
+    found: u8,
+    ordinal: u16,
+}
+
+#[repr(C)]
+struct Selected {
+    number: u8,
+    found: u8,
+    position: u32,
+}
+
+#[repr(C)]
+struct Filled {
+    number: u8,
+    written: usize,
 }
 
 /// A directory entry in a table that is lent.
@@ -42,13 +46,17 @@ pub(crate) struct Gathering {
     pub(crate) rows: usize,
     pub(crate) first: u64,
     pub(crate) last: u64,
+}
+
+#[repr(C)]
+struct Gathered {
     number: u8,
-    found: bool,
+    record: Gathering,
 }
 
 unsafe extern "C" {
-    fn pelisafu_validate(tag: u8, span: u32, body: *const u8, length: usize) -> Answer;
-    fn pelisafu_rank(tag: u8, span: u32, body: *const u8, length: usize, position: u32) -> Answer;
+    fn pelisafu_validate(tag: u8, span: u32, body: *const u8, length: usize) -> Checked;
+    fn pelisafu_rank(tag: u8, span: u32, body: *const u8, length: usize, position: u32) -> Ranked;
     fn pelisafu_ranks(
         tag: u8,
         span: u32,
@@ -58,8 +66,8 @@ unsafe extern "C" {
         positions_length: usize,
         out: *mut u32,
         out_length: usize,
-    ) -> Answer;
-    fn pelisafu_select(tag: u8, span: u32, body: *const u8, length: usize, ordinal: u16) -> Answer;
+    ) -> Filled;
+    fn pelisafu_select(tag: u8, span: u32, body: *const u8, length: usize, ordinal: u16) -> Selected;
     fn pelisafu_walk(
         tag: u8,
         span: u32,
@@ -68,8 +76,7 @@ unsafe extern "C" {
         from: u16,
         out: *mut u32,
         out_length: usize,
-    ) -> Answer;
-    fn pelisafu_segment(tag: u8, span: u32, body: *const u8, length: usize, i: usize) -> Part;
+    ) -> Filled;
     fn pelisafu_segments(
         tag: u8,
         span: u32,
@@ -77,32 +84,47 @@ unsafe extern "C" {
         length: usize,
         table: *mut Record,
         table_length: usize,
-    ) -> Answer;
-    fn pelisafu_gather_row(g: Gathering, table: *mut u16, length: usize, row: u64) -> Gathering;
+    ) -> Filled;
+    fn pelisafu_gather_row(g: Gathering, table: *mut u16, length: usize, row: u64) -> Gathered;
     fn pelisafu_gather_page(
         g: Gathering,
         table: *mut u16,
         length: usize,
         rows: *const u64,
         rows_length: usize,
-    ) -> Gathering;
+    ) -> Gathered;
+    fn pelisafu_add_row(g: &mut Gathering, table: *mut u16, length: usize, row: u64) -> u8;
+    fn pelisafu_add_page(
+        g: &mut Gathering,
+        table: *mut u16,
+        length: usize,
+        rows: *const u64,
+        rows_length: usize,
+    ) -> u8;
 }
 
 /// A value or none, or the number of the refusal.
 pub(crate) type Told<T> = Result<Option<T>, u8>;
 
-fn told<T>(number: u8, found: bool, value: T) -> Told<T> {
-    match (number, found) {
-        (0, true) => Ok(Some(value)),
-        (0, false) => Ok(None),
-        (number, false) => Err(number),
-        (number, true) => panic!("refusal {number} with a value"),
+/// A value that is not there is 0.
+fn told(number: u8, found: u8, value: u64) -> Told<u64> {
+    match (number, found, value) {
+        (0, 1, value) => Ok(Some(value)),
+        (0, 0, 0) => Ok(None),
+        (number @ 1.., 0, 0) => Err(number),
+        wrong => panic!("no answer: {wrong:?}"),
     }
 }
 
-impl Answer {
+impl Checked {
     fn told(self) -> Told<u64> {
-        told(self.number, self.found, self.value)
+        told(self.number, u8::from(self.number == 0), u64::from(self.rows))
+    }
+}
+
+impl Filled {
+    fn told(self) -> Told<u64> {
+        told(self.number, u8::from(self.number == 0), self.written as u64)
     }
 }
 
@@ -135,7 +157,8 @@ impl Body<'_> {
     #[inline]
     pub(crate) fn rank(self, position: u32) -> Told<u64> {
         let Self { tag, span, bytes } = self;
-        unsafe { pelisafu_rank(tag, span, bytes.as_ptr(), bytes.len(), position) }.told()
+        let answer = unsafe { pelisafu_rank(tag, span, bytes.as_ptr(), bytes.len(), position) };
+        told(answer.number, answer.found, u64::from(answer.ordinal))
     }
 
     #[inline]
@@ -152,7 +175,8 @@ impl Body<'_> {
     #[inline]
     pub(crate) fn select(self, ordinal: u16) -> Told<u64> {
         let Self { tag, span, bytes } = self;
-        unsafe { pelisafu_select(tag, span, bytes.as_ptr(), bytes.len(), ordinal) }.told()
+        let answer = unsafe { pelisafu_select(tag, span, bytes.as_ptr(), bytes.len(), ordinal) };
+        told(answer.number, answer.found, u64::from(answer.position))
     }
 
     #[inline]
@@ -163,14 +187,6 @@ impl Body<'_> {
     }
 
     #[inline]
-    pub(crate) fn segment(self, i: usize) -> Told<Entry> {
-        let Self { tag, span, bytes } = self;
-        let part = unsafe { pelisafu_segment(tag, span, bytes.as_ptr(), bytes.len(), i) };
-        let Part { start, span, count, ordinal, offset, length, tag, number, found } = part;
-        told(number, found, (start, span, count, ordinal, offset, length, tag))
-    }
-
-    #[inline]
     pub(crate) fn segments(self, table: &mut [Record]) -> Told<u64> {
         let Self { tag, span, bytes } = self;
         let (room, length) = (table.as_mut_ptr(), table.len());
@@ -178,26 +194,67 @@ impl Body<'_> {
     }
 }
 
+impl Gathered {
+    /// A refusal hands the record back as it was.
+    fn told(self, before: Gathering) -> Result<Gathering, u8> {
+        match self.number {
+            0 => Ok(self.record),
+            number => {
+                assert_eq!(self.record, before, "refusal {number} changed the record");
+                Err(number)
+            }
+        }
+    }
+}
+
+/// The longest table that is also gathered into with the record lent.
+const LENT: usize = 16;
+
 impl Gathering {
-    /// A record as a caller may hand it over; what stands in the answer's own fields is not read.
     pub(crate) fn record(entries: usize, rows: usize, first: u64, last: u64) -> Self {
-        Self { entries, rows, first, last, number: 77, found: true }
+        Self { entries, rows, first, last }
     }
 
     pub(crate) fn fields(self) -> (usize, usize, u64, u64) {
         (self.entries, self.rows, self.first, self.last)
     }
 
-    fn told(self) -> Result<Self, u8> {
-        told(self.number, self.found, self).map(|g| g.expect("a record or a refusal"))
+    /// What `add` does with the record and the table lent is what `answer` says and `after` holds.
+    fn lent(
+        self,
+        mut table: Vec<u16>,
+        add: impl FnOnce(&mut Self, &mut [u16]) -> u8,
+        answer: &Gathered,
+        after: &[u16],
+    ) {
+        let mut lent = self;
+        let number = add(&mut lent, &mut table);
+        assert_eq!((number, lent, &table[..]), (answer.number, answer.record, after), "lent {self:?}");
     }
 
     pub(crate) fn row(self, table: &mut [u16], row: u64) -> Result<Self, u8> {
-        unsafe { pelisafu_gather_row(self, table.as_mut_ptr(), table.len(), row) }.told()
+        let before = (table.len() <= LENT).then(|| table.to_vec());
+        let answer = unsafe { pelisafu_gather_row(self, table.as_mut_ptr(), table.len(), row) };
+        if let Some(before) = before {
+            let add = |g: &mut Self, t: &mut [u16]| unsafe {
+                pelisafu_add_row(g, t.as_mut_ptr(), t.len(), row)
+            };
+            self.lent(before, add, &answer, table);
+        }
+        answer.told(self)
     }
 
     pub(crate) fn page(self, table: &mut [u16], rows: &[u64]) -> Result<Self, u8> {
         let (page, count) = (rows.as_ptr(), rows.len());
-        unsafe { pelisafu_gather_page(self, table.as_mut_ptr(), table.len(), page, count) }.told()
+        let before = (table.len() <= LENT).then(|| table.to_vec());
+        let (room, length) = (table.as_mut_ptr(), table.len());
+        let answer = unsafe { pelisafu_gather_page(self, room, length, page, count) };
+        if let Some(before) = before {
+            let add = |g: &mut Self, t: &mut [u16]| unsafe {
+                pelisafu_add_page(g, t.as_mut_ptr(), t.len(), page, count)
+            };
+            self.lent(before, add, &answer, table);
+        }
+        answer.told(self)
     }
 }

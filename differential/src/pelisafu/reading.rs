@@ -1,7 +1,7 @@
 //! Reading by Pelisafu against reading by the original, on every body of `reading`. Nothing is taken from the plain
 //! rule, but that many ranks answer 4,294,967,295 for nothing, which the original has no call for.
 
-use super::calls::{Body, Entry, Record};
+use super::calls::{Body, Record};
 use crate::index::original::{Accepted, asserting};
 use crate::reading::{Reading, for_each, questions};
 
@@ -61,7 +61,6 @@ fn compare_refused(body: Body, tally: &mut Tally) -> Result<(), String> {
     for asked in [0, 1, 65_535] {
         same("rank", body.rank(u32::from(asked)), Err(8))?;
         same("select", body.select(asked), Err(8))?;
-        same("segment", body.segment(usize::from(asked)), Err(8))?;
     }
     for room in [0, 1, 5] {
         let mut out = canaries(room);
@@ -160,23 +159,11 @@ impl<'a> Answers<'a> {
         Ok(())
     }
 
+    /// All entries into a table with room to spare, an exact one, and one that is too short.
     fn compare_entries(&self, tally: &mut Tally) -> Result<(), String> {
         let entries = self.set.entries();
-        let every = 1 + entries.len() * (1 + self.body.bytes.len() / 8) / SINGLE_WORK;
-        for (i, entry) in entries.iter().enumerate().step_by(every) {
-            same(&format!("segment {i}"), self.body.segment(i), Ok(Some(*entry)))?;
-            tally.entries += 1;
-        }
-        for past in [entries.len(), entries.len() + 1, usize::MAX] {
-            same(&format!("segment {past}"), self.body.segment(past), Ok(None))?;
-        }
-        self.compare_table(&entries)
-    }
-
-    /// All of them into a table with room to spare, an exact one, and one that is too short.
-    fn compare_table(&self, entries: &[Entry]) -> Result<(), String> {
         let mut expected = records(entries.len() + 3);
-        for (place, entry) in expected.iter_mut().zip(entries) {
+        for (place, entry) in expected.iter_mut().zip(&entries) {
             *place = Record::from(*entry);
         }
         for spare in [3, 0] {
@@ -190,6 +177,7 @@ impl<'a> Answers<'a> {
             same("segments into less", self.body.segments(&mut short), Err(7))?;
             same("the table of segments into less", short, records(less))?;
         }
+        tally.entries += entries.len();
         Ok(())
     }
 }

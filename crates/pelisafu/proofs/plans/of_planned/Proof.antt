@@ -4,7 +4,7 @@ use mathlib.Core.Path.{sym, ap}
 use lib.ListN.{getD}
 use Rattle.plan.specs.declared.Planned.{Planned}
 use Rattle.plan.specs.Plans.{valuesOf, plannedOf}
-use Rattle.pelisafu.specs.Plans.{valueAt, shownPlan}
+use Rattle.pelisafu.specs.Shown.{valueAt, shownPlan}
 use borrow.Author.Needs.{needs}
 use Rattle.pelisafu.proofs.plans.of_planned.Statement.{statement}
 use Rattle.pelisafu.proofs.plans.of_planned.Tie as tie

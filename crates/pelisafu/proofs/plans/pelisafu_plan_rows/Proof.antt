@@ -1,7 +1,7 @@
 -- `pelisafu::plans::pelisafu_plan_rows` meets its contract.
 -- Assumes nothing.
 use mathlib.Core.Path.{ap, _∙_}
-use Rattle.pelisafu.specs.Plans.{shownPlan}
+use Rattle.pelisafu.specs.Shown.{shownPlan}
 use borrow.Author.Needs.{needs}
 use Rattle.pelisafu.proofs.plans.pelisafu_plan_rows.Statement.{statement}
 use Rattle.pelisafu.proofs.plans.pelisafu_plan_rows.Tie as tie
