@@ -8,15 +8,15 @@ use Prim.Native.Nat.{ℕ, zero, suc, _+_, _-_, _*_, _<_, _≤_}
 use native.Mathlib.Nat.{le-trans, eq-or-lt-of-le}
 use native.Mathlib.Omega.{arith}
 use lib.Dec.{ltb, lit<}
-use lib.ListN.{length, getD}
-use borrow.Author.Tests.{lt-ltb, le-ltb}
+use lib.ListN.{length, getD, replicate}
+use borrow.Author.Tests.{lt-ltb, le-ltb, eq-eqb}
 use Rattle.model.specs.Tests.{pick}
 use Rattle.model.proofs.Tests.{either, order, never, pick-true, pick-false}
 use Rattle.cost.specs.declared.Stats.{Stats}
 use Rattle.cost.specs.declared.Form.{Form}
-use Rattle.cost.specs.Statistics.{spanOf}
+use Rattle.cost.specs.Statistics.{spanOf, holesOf}
 use Rattle.bitmap.specs.Body.{bitmapLength}
-use Rattle.cost.specs.Forms.{itemsForm, bitmapForm, lex, keyOf, lesser, Offer, always, denseForm, least, localOffers, localForm}
+use Rattle.cost.specs.Forms.{itemsForm, bitmapForm, orderOf, lex, keyOf, lesser, Offer, always, denseForm, least, localOffers, localForm}
 use Rattle.cost.proofs.Choices.{lex-same}
 
 -- ---- keys of one length are in order
@@ -154,3 +154,23 @@ local-bitmap s =
 
 pub local-short : (s : Stats) → spanOf s ≤ 65535 → localForm s .bytes ≤ 8704
 local-short s h = le-trans (local-bitmap s) (omega arith)
+
+-- ---- nothing is below the dense form
+
+zeros-least : (xs : List ℕ) (n : ℕ) → lex xs (replicate n 0) ≡ false
+unfolding lex
+zeros-least [] n = refl
+zeros-least (x ∷ xs) zero = refl
+zeros-least (x ∷ xs) (suc n) = ⊎-elim (λ (p : 0 < x). more-first x 0 xs (replicate n 0) p) (λ (z : x ≤ 0). lex-same x 0 xs (replicate n 0) (omega arith) ∙ zeros-least xs n) (order 0 x)
+
+dense-stays : (f : Form) → lesser denseForm f ≡ denseForm
+unfolding lesser keyOf denseForm orderOf pick
+dense-stays f = rw (zeros-least (keyOf f) 5)
+
+dense-taken : (n : ℕ) → 1 ≤ n → lesser (itemsForm 3 false (2 * n) n) denseForm ≡ denseForm
+unfolding lesser keyOf itemsForm denseForm
+dense-taken n h = pick-true _ _ (less-first 0 (2 * n) _ _ (omega arith))
+
+pub dense-local : (s : Stats) → holesOf s ≡ 0 → 1 ≤ s .count → localForm s ≡ denseForm
+unfolding localForm localOffers least pick
+dense-local s h some = rw (eq-eqb (holesOf s) 0 h, dense-taken (s .count) some, dense-stays (itemsForm 4 false (6 * s .runs) (s .runs)), dense-stays (itemsForm 7 false (2 * holesOf s) (holesOf s)), dense-stays (bitmapForm false 0 (spanOf s)))

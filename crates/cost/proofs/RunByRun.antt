@@ -87,20 +87,39 @@ module _ (rows : List ℕ) (i : ℕ) where
 
 -- ---- the loop that counts runs
 
+-- a number in front of others begins a run of its own, unless the first of them follows it
+run-front : (x y : ℕ) (ys : List ℕ) → length (runsOf (x ∷ y ∷ ys)) ≡ pick {A = ℕ} (eqb y (suc x)) 0 1 + length (runsOf (y ∷ ys))
+unfolding runsOf onto pick
+run-front x y ys =
+    ap (λ (rs : List Run). length (onto x rs)) (first-run y ys)
+    ∙ ⊎-elim (λ e. rw e (omega arith)) (λ e. rw e (omega arith)) (either (eqb y (suc x)))
+    ∙ ap (λ (rs : List Run). pick {A = ℕ} (eqb y (suc x)) 0 1 + length rs) (sym (first-run y ys))
+
+-- what a loop has counted after i + 1 rows
 pub record Counting (rows : List ℕ) (runs i : ℕ) : Type 0 where
-  pub few : runs ≤ i
-  pub within : i ≤ length rows
-  pub whole : length (runsOf rows) ≡ runs + length (runsOf (drop i rows))
+  pub few : runs ≤ i + 1
+  pub within : i ≤ length rows - 1
+  pub whole : length (runsOf rows) + 1 ≡ runs + length (runsOf (drop i rows))
 
 module _ (rows : List ℕ) where
-  pub counting-start : Counting rows 0 0
+  pub counting-start : Counting rows 1 0
   counting-start = record { few = omega arith; within = omega arith; whole = omega arith }
 
-  pub counting-next : (runs i : ℕ) → Counting rows runs i → i < length rows → Counting rows (runs + 1) (runEnd rows i)
-  counting-next runs i k h =
-      let a = run-after rows i in
-      record { few = omega (arith, k .few); within = run-within rows i h; whole = k .whole ∙ rw (run-at rows i h) (omega arith) }
+  pub counting-next : (runs i : ℕ) → Counting rows runs i → i + 1 < length rows → {t : Bool} {k : ℕ} → t ≡ eqb (getD rows (i + 1) 0) (suc (getD rows i 0)) → (k ≡ pick t 0 1) × (k ≤ 1) → Counting rows (runs + k) (i + 1)
+  counting-next runs i c h {t} {k} e n =
+      let x = getD rows i 0 in
+      let y = getD rows (i + 1) 0 in
+      let f : k ≡ pick {A = ℕ} (eqb y (suc x)) 0 1 = rw e at (n .0) in
+      let one : drop i rows ≡ x ∷ drop (i + 1) rows = rw (add-one i, drop-cons rows i 0 (omega arith)) in
+      let two : drop (i + 1) rows ≡ y ∷ drop (i + 1 + 1) rows = rw (add-one (i + 1), drop-cons rows (i + 1) 0 h) in
+      let s : length (runsOf (drop i rows)) ≡ k + length (runsOf (drop (i + 1) rows)) = rw (one, two, f) (run-front x y (drop (i + 1 + 1) rows)) in
+      record { few = omega (arith, c .few, n .1); within = omega arith; whole = omega (arith, c .whole, s) }
 
-  pub counting-end : (runs i : ℕ) → Counting rows runs i → length rows ≤ i → runs ≡ length (runsOf rows)
-  unfolding runsOf
-  counting-end runs i k h = sym (k .whole ∙ rw (drop-of-length-le rows h) (add-zero runs))
+  pub counting-end : (runs i : ℕ) → Counting rows runs i → 1 ≤ length rows → length rows ≤ i + 1 → runs ≡ length (runsOf rows)
+  unfolding runsOf onto
+  counting-end runs i c some h =
+      let w = c .within in
+      let d : drop (i + 1) rows ≡ [] = drop-of-length-le rows h in
+      let one : drop i rows ≡ getD rows i 0 ∷ [] = rw (drop-cons rows i 0 (omega arith), ← add-one i, d) in
+      let n : length (runsOf (drop i rows)) ≡ 1 = rw one refl in
+      omega (arith, c .whole, n)

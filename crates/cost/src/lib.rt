@@ -1,9 +1,9 @@
 // What a segment's forms cost: its statistics, and the cheapest form.
 ghost use mathlib.Core.Path.{_≡_};
 ghost use mathlib.Core.Bool.{false};
-ghost use Prim.Native.Nat.{suc, _+_, _-_, _*_, _<_, _≤_};
+ghost use Prim.Native.Nat.{ℕ, suc, _+_, _-_, _*_, _<_, _≤_};
 ghost use lib.Dec.{eqb};
-ghost use lib.ListN.{length};
+ghost use lib.ListN.{length, getD};
 ghost use Rattle.model.specs.Tests.{pick};
 ghost use Rattle.model.specs.Lists.{runsOf};
 ghost use Rattle.cost.specs.Statistics.{Sound, Neighbours, statsOf, joined, spanOf};
@@ -167,7 +167,7 @@ fn local_span(s: Stats) -> u64
     (s.last - s.first) as u64 + 1
 }
 
-// The cheapest form of a segment.
+// The cheapest form of a segment. Nothing is below the dense form, so that the others are not looked at where it is allowed.
 pub fn local_form(s: Stats) -> Form
     requires { ⌜ Sound s ⌝ }
     ensures { λ r. ⌜ r ≡ localForm s ⌝ }
@@ -176,9 +176,11 @@ pub fn local_form(s: Stats) -> Form
     let runs = s.runs as u64;
     let span = local_span(s);
     let holes = span - count;
+    if holes == 0 {
+        return dense();
+    }
     let list = items(3, false, 2 * count, count);
-    let a = consider(list, holes == 0, dense());
-    let b = cheaper(a, items(4, false, 6 * runs, runs));
+    let b = cheaper(list, items(4, false, 6 * runs, runs));
     let d = cheaper(b, items(7, false, 2 * holes, holes));
     cheaper(d, bitmap(false, 0, span))
 }
@@ -269,32 +271,53 @@ pub fn run_end16(ordinals: &[u16], i: usize) -> usize
     j
 }
 
-// How many runs rows make.
+// Whether b, which is above a, is the number after it.
+fn touches(a: u64, b: u64) -> bool
+    requires { ⌜ a < b ⌝ }
+    ensures { λ r. ⌜ r ≡ eqb b (suc a) ⌝ }
+{
+    b - a == 1
+}
+
+fn touches16(a: u16, b: u16) -> bool
+    ensures { λ r. ⌜ r ≡ eqb b (suc a) ⌝ }
+{
+    b as u32 == a as u32 + 1
+}
+
+fn one_unless(t: bool) -> usize
+    ensures { λ r. ⌜ (r ≡ pick t 0 1) × (r ≤ 1) ⌝ }
+{
+    if t { 0 } else { 1 }
+}
+
+// How many runs rows make that rise: one, and one more for each row that does not follow the row before it. No branch here
+// depends on rows: a loop that left each run at its end would guess wrong at every short one.
 fn count_runs(rows: &[u64]) -> u32
-    requires { ⌜ length (now rows) ≤ 4294967295 ⌝ }
+    requires { ⌜ (1 ≤ length (now rows)) × (length (now rows) ≤ 4294967295) × ((i : ℕ) → i + 1 < length (now rows) → getD (now rows) i 0 < getD (now rows) (i + 1) 0) ⌝ }
     ensures { λ r. ⌜ r ≡ length (runsOf (now (rows .entry))) ⌝ }
 {
-    let mut runs: u32 = 0;
+    let mut runs: usize = 1;
     let mut i = 0;
-    while i < rows.len() {
-        i = run_end(rows, i);
-        runs += 1;
+    while i + 1 < rows.len() {
+        runs += one_unless(touches(rows[i], rows[i + 1]));
+        i += 1;
     }
-    runs
+    runs as u32
 }
 
 // The same of ordinals.
 fn count_runs16(ordinals: &[u16]) -> u32
-    requires { ⌜ length (now ordinals) ≤ 4294967295 ⌝ }
+    requires { ⌜ (1 ≤ length (now ordinals)) × (length (now ordinals) ≤ 4294967295) ⌝ }
     ensures { λ r. ⌜ r ≡ length (runsOf (now (ordinals .entry))) ⌝ }
 {
-    let mut runs: u32 = 0;
+    let mut runs: usize = 1;
     let mut i = 0;
-    while i < ordinals.len() {
-        i = run_end16(ordinals, i);
-        runs += 1;
+    while i + 1 < ordinals.len() {
+        runs += one_unless(touches16(ordinals[i], ordinals[i + 1]));
+        i += 1;
     }
-    runs
+    runs as u32
 }
 
 // A row's position.

@@ -1,4 +1,4 @@
--- The forms that are written run by run: list, runs and missing.
+-- The forms that are written run by run: runs and missing.
 -- Assumes nothing.
 use mathlib.Core.Path.{_≡_, refl, sym, ap, _∙_}
 use mathlib.Core.List.{List, [], _∷_, _++_, append-assoc, append-nil}
@@ -13,23 +13,6 @@ use Rattle.lists.proofs.Bytes.{layout-append}
 use Rattle.missing.specs.Missing.{missingLayout}
 use Rattle.runs.specs.Runs.{runsBytes, runsLayout}
 use Rattle.emit.proofs.Rowing.{Form, Step}
-
--- ---- list
-
-unfoldable pub listForm : ℕ → Form
-listForm w i from rs = listLayout w (spread rs)
-
-pub list-whole : (w : ℕ) (xs : List ℕ) → listForm w 0 0 (runsOf xs) ≡ listLayout w xs
-unfolding listForm
-list-whole w xs = rw spread-runsOf
-
-pub list-step : (w b i from start n : ℕ) → Step (listForm w) b i from start n (listLayout w (range start n))
-unfolding listForm spread
-list-step w b i from start n rs a = layout-append w (range start n) (spread rs)
-
-pub list-end : (w i from : ℕ) → listForm w i from [] ≡ []
-unfolding listForm spread listLayout
-list-end w i from = refl
 
 -- ---- runs
 

@@ -6,6 +6,4 @@ pub mod Forms
 pub mod Passing
 pub mod Loops
 pub mod Storing
-pub mod Ranging
-pub mod Counting
-pub mod Mapping
+pub mod Wording

@@ -7,7 +7,7 @@ use native.Mathlib.Omega.{arith}
 use lib.ListN.{length, getD}
 use Rattle.model.specs.Lists.{Rising, range, run, runsOf}
 use Rattle.model.proofs.Ranges.{length-range}
-use Rattle.model.proofs.Rising.{rising-from, rising-below, rising-room}
+use Rattle.model.proofs.Rising.{rising-from, rising-below}
 use Rattle.lists.specs.Lists.{listLayout}
 use Rattle.lists.proofs.Bytes.{length-layout}
 use Rattle.missing.specs.Missing.{missingLayout}
@@ -18,7 +18,7 @@ use Rattle.emit.specs.Written.{Written}
 use Rattle.emit.proofs.Emitting.{Emitting, emitting-next, emitting-room, emitting-end}
 use Rattle.emit.proofs.Pieces.{length-entry}
 use Rattle.emit.proofs.Rowing.{Form, Step, Rowing, Ahead}
-use Rattle.emit.proofs.Forms.{listForm, list-whole, list-step, list-end, runsForm, runs-whole, runs-step, runs-end, missingForm, missing-whole, missing-step, missing-end}
+use Rattle.emit.proofs.Forms.{runsForm, runs-whole, runs-step, runs-end, missingForm, missing-whole, missing-step, missing-end}
 use Rattle.emit.proofs.Passing.{Passing, ahead-rows, room-rows, next-rows, done-rows, pass-next, pass-end}
 
 -- a row, and the end of its run
@@ -31,21 +31,9 @@ ends rows i h l = rw l (run-after rows i, run-within rows i h)
 size-range : (w a n : ℕ) → length (listLayout w (range a n)) ≡ n * w
 size-range w a n = length-layout w (range a n) ∙ rw length-range
 
--- ---- list and runs
+-- ---- runs
 
 module _ (w base : ℕ) (rows before : List ℕ) (at : ℕ) (r : Rising base (base + 4294967295) rows) where
-  module _ {p i : ℕ} {out : List ℕ} (s : Passing (listForm w) base 4294967295 rows before at p i out) (h : i < length rows) {start j : ℕ} (a : start ≡ getD rows i 0 - base) (l : j ≡ runEnd rows i) where
-    pub list-fits : at + length (listLayout w (positionsOf base rows)) ≤ length before → (p + (j - i) * w ≤ length out) × (start + (j - i) ≤ 4294967296)
-    list-fits k =
-        let m = room-rows (listForm w) base 4294967295 rows before at r (s .so) h a l (listLayout w (range start (j - i))) (list-step w 4294967295 i (s .from) start (j - i)) (rw list-whole k) in
-        (rw (← size-range w start (j - i)) m, omega (arith, ahead-rows (listForm w) base 4294967295 rows before at r (s .so) h a l .within))
-
-    pub list-next : {q : ℕ} {out′ : List ℕ} → Written (listLayout w (range start (j - i))) p out out′ q → Passing (listForm w) base 4294967295 rows before at q j out′
-    list-next wr = pass-next (listForm w) base 4294967295 rows before at r (s .so) h a l wr (list-step w 4294967295 i (s .from) start (j - i))
-
-  pub list-done : {p i : ℕ} {out : List ℕ} → Passing (listForm w) base 4294967295 rows before at p i out → length rows ≤ i → Written (listLayout w (positionsOf base rows)) at before out p
-  list-done s h = rw list-whole at (pass-end (listForm w) base 4294967295 rows before at r (list-end w) s h)
-
   module _ {p i : ℕ} {out : List ℕ} (s : Passing (runsForm w) base 4294967295 rows before at p i out) (h : i < length rows) {start j : ℕ} (a : start ≡ getD rows i 0 - base) (l : j ≡ runEnd rows i) where
     pub runs-fits : at + length (runsLayout w (positionsOf base rows)) ≤ length before → p + (w + 4) ≤ length out
     runs-fits k =

@@ -1,11 +1,13 @@
 -- The pieces that are written: a field, the items of a range, the entry of a run.
 -- Assumes nothing.
 use mathlib.Core.Path.{_≡_, refl, sym, ap, _∙_}
-use mathlib.Core.List.{List, [], _∷_, _++_, append-assoc, append-nil}
+use mathlib.Core.List.{List, [], _∷_, _++_, append-nil}
 use Prim.Native.Nat.{ℕ, zero, suc, _+_, _-_, _*_, _%_, _^_, _<_, _≤_}
 use native.Mathlib.Nat.{add-zero, sub-zero}
 use native.Mathlib.Omega.{arith}
-use lib.ListN.{length, length-append}
+use lib.ListN.{length, getD, drop, length-append, drop-of-length-le}
+use lib.Seq.{drop-cons}
+use native.Mathlib.Numerals.{add-one}
 use Rattle.fields.specs.Le.{digits, put}
 use Rattle.fields.proofs.Laws.{digits-split, length-digits}
 use Rattle.model.specs.Lists.{range, run}
@@ -68,27 +70,28 @@ pub length-entry : (w before start size : ℕ) → length (runsBytes w before (r
 unfolding runsBytes
 length-entry w before start size = simp (append-nil, length-append, length-digits) (omega arith)
 
--- ---- words of zeros
+-- ---- the items of a list, one after the other
 
 -- i of them stand
-pub record Zeroing (words : ℕ) (before : List ℕ) (at p i : ℕ) (out : List ℕ) : Type 0 where
-  pub upto : i ≤ words
-  pub so : Emitting (digits (8 * words) 0) before at p (digits (8 * (words - i)) 0) out
+pub record Items (w : ℕ) (xs before : List ℕ) (at p i : ℕ) (out : List ℕ) : Type 0 where
+  pub upto : i ≤ length xs
+  pub so : Emitting (listLayout w xs) before at p (listLayout w (drop i xs)) out
 
-module _ (words : ℕ) (before : List ℕ) (at : ℕ) where
-  pub zeroing-start : Zeroing words before at at 0 before
-  zeroing-start = record { upto = omega arith; so = rw sub-zero (emitting-start (digits (8 * words) 0) before at) }
+module _ (w : ℕ) (xs before : List ℕ) (at : ℕ) where
+  pub items-start : Items w xs before at at 0 before
+  items-start = record { upto = omega arith; so = emitting-start (listLayout w xs) before at }
 
-  module _ {p i : ℕ} {out : List ℕ} (s : Zeroing words before at p i out) (h : i < words) where
-    word : digits (8 * (words - i)) 0 ≡ digits 8 0 ++ digits (8 * (words - (i + 1))) 0
-    word = let e : 8 * (words - i) ≡ 8 + 8 * (words - (i + 1)) = omega arith in rw e (digits-split 8 (8 * (words - (i + 1))) 0)
+  module _ {p i : ℕ} {out : List ℕ} (s : Items w xs before at p i out) (h : i < length xs) where
+    item : listLayout w (drop i xs) ≡ digits w (getD xs i 0) ++ listLayout w (drop (i + 1) xs)
+    unfolding listLayout
+    item = rw (add-one i, drop-cons xs i 0 h)
 
-    pub zeroing-room : at + 8 * words ≤ length before → p + 8 ≤ length out
-    zeroing-room r = omega (arith, length-digits 8 0, emitting-room (s .so) (digits 8 0) _ word (rw length-digits r))
+    pub items-room : at + length (listLayout w xs) ≤ length before → p + w ≤ length out
+    items-room r = omega (arith, length-digits w (getD xs i 0), emitting-room (s .so) (digits w (getD xs i 0)) _ item r)
 
-    pub zeroing-next : {out′ : List ℕ} → out′ ≡ put 8 out p 0 → Zeroing words before at (p + 8) (i + 1) out′
-    zeroing-next e = record { upto = omega arith; so = emitting-next (s .so) (written-put 8 0 p e refl) word }
+    pub items-next : {v q : ℕ} {out′ : List ℕ} → v ≡ getD xs i 0 → out′ ≡ put w out p v → q ≡ p + w → Items w xs before at q (i + 1) out′
+    items-next e f l = record { upto = omega arith; so = emitting-next (s .so) (written-put w (getD xs i 0) p (rw e at f) l) item }
 
-  pub zeroing-end : {p i : ℕ} {out : List ℕ} → Zeroing words before at p i out → words ≤ i → Written (digits (8 * words) 0) at before out p
-  unfolding digits
-  zeroing-end {p} {i} s h = let e : 8 * (words - i) ≡ 0 = omega arith in emitting-end (s .so) (rw e)
+  pub items-end : {p i : ℕ} {out : List ℕ} → Items w xs before at p i out → length xs ≤ i → Written (listLayout w xs) at before out p
+  unfolding listLayout
+  items-end s h = emitting-end (s .so) (rw (drop-of-length-le xs h))

@@ -1,3 +1,2 @@
 pub mod Written
-pub mod Digits
-pub mod Groups
+pub mod Words

@@ -1,19 +1,18 @@
-// Bodies from rows, run by run, written into a lent slice. Everything that writes takes a run, its start and its length,
-// and answers the place behind what it wrote.
+// Bodies from rows, written into a lent slice. Everything that writes answers the place behind what it wrote.
 ghost use mathlib.Core.Path.{_≡_};
 ghost use mathlib.Core.List.{[], _∷_};
-ghost use Prim.Native.Nat.{_+_, _-_, _*_, _/_, _%_, _<_, _≤_, min};
+ghost use Prim.Native.Nat.{_+_, _-_, _*_, _/_, _≤_};
+ghost use lib.Dec.{eqb};
 ghost use lib.ListN.{length};
-ghost use Rattle.fields.specs.Le.{digits, put, widthOf};
+ghost use Rattle.fields.specs.Le.{put, widthOf};
 ghost use Rattle.model.specs.Lists.{Rising, range, run};
 ghost use Rattle.lists.specs.Lists.{listLayout};
 ghost use Rattle.runs.specs.Runs.{runsBytes, runsLayout};
 ghost use Rattle.missing.specs.Missing.{missingLayout};
-ghost use Rattle.bitmap.specs.Body.{wordsOf, groupsOf, bitmapLength, bitmapLayout};
+ghost use Rattle.bitmap.specs.Body.{wordsOf, bitmapLength, bitmapLayout};
 ghost use Rattle.cost.specs.Rows.{positionsOf};
 ghost use Rattle.emit.specs.Written.{Written};
-ghost use Rattle.emit.specs.Digits.{mask, setIn, Ranged};
-ghost use Rattle.emit.specs.Groups.{countsBytes, groupAfter, Mapped};
+ghost use Rattle.emit.specs.Words.{withDigit, countedAt, Cut, Worded};
 
 fn width(wide: bool) -> usize
     ensures { λ r. ⌜ r ≡ widthOf wide ⌝ }
@@ -64,59 +63,26 @@ pub fn run_entry(out: &mut [u8], at: usize, start: u32, size: u16, before: u16, 
     p + 4
 }
 
-// ---- bitmaps: words of zeros first, then the digits of each run, word by word
+// ---- bitmaps, word by word
 
-// The number 0 in words.
-fn zeros(out: &mut [u8], at: usize, words: usize) -> usize
-    requires { ⌜ at + 8 * words ≤ length (now out) ⌝ }
-    ensures { λ r. ⌜ Written (digits (8 * words) 0) at (now (out .entry)) (now (out .exit)) r ⌝ }
-{
-    let mut p = at;
-    let mut i = 0;
-    while i < words {
-        fields::put64(out, p, 0);
-        p += 8;
-        i += 1;
-    }
-    p
+// The digits of the rows that stand in one word, and the index of the first row behind them.
+pub struct Word {
+    pub bits: u64,
+    pub next: usize,
 }
 
-// n digits from `low` on.
-fn mask(low: u32, n: u32) -> u64
-    requires { ⌜ (1 ≤ n) × (low + n ≤ 64) ⌝ }
-    ensures { λ r. ⌜ r ≡ mask low n ⌝ }
+// The digits of a word with one more, by the position that it stands for.
+fn with_digit(bits: u64, position: u32) -> u64
+    ensures { λ r. ⌜ r ≡ withDigit bits position ⌝ }
 {
-    (18446744073709551615 >> (64 - n)) << low
+    bits | (1 << (position % 64))
 }
 
-fn least(a: u32, b: u32) -> u32
-    ensures { λ r. ⌜ r ≡ min a b ⌝ }
+// Whether a position stands in the word k.
+fn in_word(position: u32, k: usize) -> bool
+    ensures { λ r. ⌜ r ≡ eqb (position / 64) k ⌝ }
 {
-    if a < b { a } else { b }
-}
-
-// Sets n digits from q on, all of one word.
-fn set_in_word(out: &mut [u8], at: usize, q: u32, n: u32)
-    requires { ⌜ (1 ≤ n) × (q % 64 + n ≤ 64) × (at + 8 * (q / 64) + 8 ≤ length (now out)) ⌝ }
-    ensures { λ _. ⌜ now (out .exit) ≡ setIn (now (out .entry)) at q n ⌝ }
-{
-    let p = at + 8 * (q / 64) as usize;
-    let word = fields::read64(out, p);
-    fields::put64(out, p, word | mask(q % 64, n));
-}
-
-// Sets the digits of a run.
-fn set_range(out: &mut [u8], at: usize, start: u32, size: u32)
-    requires { ⌜ (start + size ≤ 4294967295) × (at + 8 * ((start + size + 63) / 64) ≤ length (now out)) ⌝ }
-    ensures { λ _. ⌜ Ranged at start (start + size) (now (out .entry)) (now (out .exit)) ⌝ }
-{
-    let end = start + size;
-    let mut q = start;
-    while q < end {
-        let n = least(64 - q % 64, end - q);
-        set_in_word(out, at, q, n);
-        q += n;
-    }
+    (position / 64) as usize == k
 }
 
 fn words_of(span: u32) -> usize
@@ -125,51 +91,21 @@ fn words_of(span: u32) -> usize
     (span as usize + 63) / 64
 }
 
-fn groups_of(span: u32) -> usize
-    ensures { λ r. ⌜ r ≡ groupsOf span ⌝ }
+fn groups_of(words: usize) -> usize
+    requires { ⌜ words ≤ 67108864 ⌝ }
+    ensures { λ r. ⌜ r ≡ (words + 3) / 4 ⌝ }
 {
-    (words_of(span) + 3) / 4
+    (words + 3) / 4
 }
 
-// a less b, and 0 where b is more.
-fn less(a: usize, b: usize) -> usize
-    ensures { λ r. ⌜ r ≡ a - b ⌝ }
+// Each fourth word begins a group: the rows before it go in front of the words.
+fn put_before(out: &mut [u8], at: usize, k: usize, rows: usize)
+    requires { ⌜ at + 2 * (k / 4) + 2 ≤ length (now out) ⌝ }
+    ensures { λ _. ⌜ now (out .exit) ≡ countedAt (now (out .entry)) at k rows ⌝ }
 {
-    if a < b { 0 } else { a - b }
-}
-
-// The rows before each group from g up to `to`, by a run and the rows before it.
-fn counts(out: &mut [u8], at: usize, g: usize, to: usize, start: usize, before: usize) -> usize
-    requires { ⌜ (g ≤ to) × (to ≤ 16777216) × (before ≤ 4294967295) × (at + 2 * (to - g) ≤ length (now out)) ⌝ }
-    ensures { λ r. ⌜ Written (countsBytes before start g (to - g)) at (now (out .entry)) (now (out .exit)) r ⌝ }
-{
-    let mut p = at;
-    let mut k = g;
-    while k < to {
-        fields::put16(out, p, ((before + less(256 * k, start)) % 65536) as u16);
-        p += 2;
-        k += 1;
+    if k % 4 == 0 {
+        fields::put16(out, at + 2 * (k / 4), (rows % 65536) as u16);
     }
-    p
-}
-
-// A run in the words and in the groups from g on. Answers the first group that begins behind it.
-fn bitmap_run(
-    out: &mut [u8],
-    at: usize,
-    words: usize,
-    g: usize,
-    start: u32,
-    size: u32,
-    before: usize,
-) -> usize
-    requires { ⌜ (g ≤ groupAfter (start + size)) × (start + size ≤ 4294967295) × (before ≤ 4294967295) × (at + 2 * groupAfter (start + size) ≤ length (now out)) × (words + 8 * ((start + size + 63) / 64) ≤ length (now out)) ⌝ }
-    ensures { λ r. ⌜ Mapped at words g start size before (now (out .entry)) (now (out .exit)) r ⌝ }
-{
-    let to = ((start + size) as usize + 255) / 256;
-    set_range(out, words, start, size);
-    counts(out, at + 2 * g, g, to, start as usize, before);
-    to
 }
 
 // ---- u64 rows, counted from base: the rows of a whole set, or of one segment as a part of its own
@@ -178,12 +114,13 @@ pub fn list_rows(out: &mut [u8], at: usize, rows: &[u64], base: u64, wide: bool)
     requires { ⌜ (Rising base (base + 4294967295) (now rows)) × (at + length (listLayout (widthOf wide) (positionsOf base (now rows))) ≤ length (now out)) ⌝ }
     ensures { λ r. ⌜ Written (listLayout (widthOf wide) (positionsOf base (now (rows .entry)))) at (now (out .entry)) (now (out .exit)) r ⌝ }
 {
+    let w = width(wide);
     let mut p = at;
     let mut i = 0;
     while i < rows.len() {
-        let j = cost::run_end(rows, i);
-        p = list_run(out, p, cost::position(rows[i], base), (j - i) as u32, wide);
-        i = j;
+        put_field(out, p, cost::position(rows[i], base), wide);
+        p += w;
+        i += 1;
     }
     p
 }
@@ -227,31 +164,47 @@ pub fn missing_rows(out: &mut [u8], at: usize, rows: &[u64], base: u64, span: u3
     list_run(out, p, from, span - from, false)
 }
 
-// The words are zeros first. After the last run the groups that are left have all rows before them.
+// The digits of the word k, whose first row is that of index i.
+fn word_rows(rows: &[u64], i: usize, base: u64, k: usize) -> Word
+    requires { ⌜ (Rising base (base + 4294967295) (now rows)) × Cut (positionsOf base (now rows)) k i ⌝ }
+    ensures { λ r. ⌜ Worded (positionsOf base (now (rows .entry))) k i r ⌝ }
+{
+    let mut bits: u64 = 0;
+    let mut j = i;
+    while j < rows.len() {
+        let q = cost::position(rows[j], base);
+        if !in_word(q, k) {
+            return Word {
+                bits: bits,
+                next: j,
+            };
+        }
+        bits = with_digit(bits, q);
+        j += 1;
+    }
+    Word {
+        bits: bits,
+        next: j,
+    }
+}
+
 pub fn bitmap_rows(out: &mut [u8], at: usize, rows: &[u64], base: u64, span: u32) -> usize
     requires { ⌜ (Rising base (base + span) (now rows)) × (at + bitmapLength span ≤ length (now out)) ⌝ }
     ensures { λ r. ⌜ Written (bitmapLayout span (positionsOf base (now (rows .entry)))) at (now (out .entry)) (now (out .exit)) r ⌝ }
 {
-    let groups = groups_of(span);
-    let words = at + 2 * groups;
-    let end = zeros(out, words, words_of(span));
-    let mut g = 0;
+    let words = words_of(span);
+    let mut p = at + 2 * groups_of(words);
     let mut i = 0;
-    while i < rows.len() {
-        let j = cost::run_end(rows, i);
-        g = bitmap_run(
-            out,
-            at,
-            words,
-            g,
-            cost::position(rows[i], base),
-            (j - i) as u32,
-            i,
-        );
-        i = j;
+    let mut k = 0;
+    while k < words {
+        let word = word_rows(rows, i, base, k);
+        put_before(out, at, k, i);
+        fields::put64(out, p, word.bits);
+        i = word.next;
+        p += 8;
+        k += 1;
     }
-    counts(out, at + 2 * g, g, groups, 256 * groups, i);
-    end
+    p
 }
 
 // ---- the same of u16 ordinals
@@ -267,12 +220,13 @@ pub fn list_ordinals(out: &mut [u8], at: usize, ordinals: &[u16], base: u16, wid
     requires { ⌜ (Rising base (base + 4294967295) (now ordinals)) × (at + length (listLayout (widthOf wide) (positionsOf base (now ordinals))) ≤ length (now out)) ⌝ }
     ensures { λ r. ⌜ Written (listLayout (widthOf wide) (positionsOf base (now (ordinals .entry)))) at (now (out .entry)) (now (out .exit)) r ⌝ }
 {
+    let w = width(wide);
     let mut p = at;
     let mut i = 0;
     while i < ordinals.len() {
-        let j = cost::run_end16(ordinals, i);
-        p = list_run(out, p, position16(ordinals[i], base), (j - i) as u32, wide);
-        i = j;
+        put_field(out, p, position16(ordinals[i], base), wide);
+        p += w;
+        i += 1;
     }
     p
 }
@@ -315,28 +269,45 @@ pub fn missing_ordinals(out: &mut [u8], at: usize, ordinals: &[u16], base: u16, 
     list_run(out, p, from, span - from, false)
 }
 
+// The digits of the word k, whose first row is that of index i.
+fn word_ordinals(ordinals: &[u16], i: usize, base: u16, k: usize) -> Word
+    requires { ⌜ (Rising base (base + 4294967295) (now ordinals)) × Cut (positionsOf base (now ordinals)) k i ⌝ }
+    ensures { λ r. ⌜ Worded (positionsOf base (now (ordinals .entry))) k i r ⌝ }
+{
+    let mut bits: u64 = 0;
+    let mut j = i;
+    while j < ordinals.len() {
+        let q = position16(ordinals[j], base);
+        if !in_word(q, k) {
+            return Word {
+                bits: bits,
+                next: j,
+            };
+        }
+        bits = with_digit(bits, q);
+        j += 1;
+    }
+    Word {
+        bits: bits,
+        next: j,
+    }
+}
+
 pub fn bitmap_ordinals(out: &mut [u8], at: usize, ordinals: &[u16], base: u16, span: u32) -> usize
     requires { ⌜ (Rising base (base + span) (now ordinals)) × (at + bitmapLength span ≤ length (now out)) ⌝ }
     ensures { λ r. ⌜ Written (bitmapLayout span (positionsOf base (now (ordinals .entry)))) at (now (out .entry)) (now (out .exit)) r ⌝ }
 {
-    let groups = groups_of(span);
-    let words = at + 2 * groups;
-    let end = zeros(out, words, words_of(span));
-    let mut g = 0;
+    let words = words_of(span);
+    let mut p = at + 2 * groups_of(words);
     let mut i = 0;
-    while i < ordinals.len() {
-        let j = cost::run_end16(ordinals, i);
-        g = bitmap_run(
-            out,
-            at,
-            words,
-            g,
-            position16(ordinals[i], base),
-            (j - i) as u32,
-            i,
-        );
-        i = j;
+    let mut k = 0;
+    while k < words {
+        let word = word_ordinals(ordinals, i, base, k);
+        put_before(out, at, k, i);
+        fields::put64(out, p, word.bits);
+        i = word.next;
+        p += 8;
+        k += 1;
     }
-    counts(out, at + 2 * g, g, groups, 256 * groups, i);
-    end
+    p
 }

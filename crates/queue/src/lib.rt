@@ -2,6 +2,7 @@
 ghost use mathlib.Core.Path.{_≡_};
 ghost use Prim.Native.Nat.{_+_, _*_, _<_, _≤_};
 ghost use lib.ListN.{length, take, drop};
+ghost use Rattle.model.specs.Tests.{pick};
 ghost use Rattle.queue.specs.Keys.{key, put, Heap};
 ghost use Rattle.queue.specs.Contracts.{Larger, Settled, Pushed, Popped};
 
@@ -46,7 +47,14 @@ pub fn push(h: &mut [u32], n: usize, k: u64)
     store(h, i, k);
 }
 
-// Of the place c and the next, as far as they are below m, the one with the larger key.
+fn one_if(t: bool) -> usize
+    ensures { λ r. ⌜ (r ≡ pick t 1 0) × (r ≤ 1) ⌝ }
+{
+    if t { 1 } else { 0 }
+}
+
+// Of the place c and the next, as far as they are below m, the one with the larger key. Which it is follows no pattern, so
+// it is added and not branched on.
 fn larger(h: &[u32], c: usize, m: usize) -> usize
     requires { ⌜ (c < m) × (m * 2 ≤ length (now h)) ⌝ }
     ensures { λ r. ⌜ Larger (now (h .entry)) c m r ⌝ }
@@ -55,9 +63,7 @@ fn larger(h: &[u32], c: usize, m: usize) -> usize
     if d < m {
         let left = load(h, c);
         let right = load(h, d);
-        if left < right {
-            return d;
-        }
+        return c + one_if(left < right);
     }
     c
 }

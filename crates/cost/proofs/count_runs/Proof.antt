@@ -4,7 +4,7 @@ use Prim.Native.Nat.{_-_}
 use native.Mathlib.Omega.{arith}
 use borrow.Author.Needs.{needs}
 use lib.ListN.{length}
-use Rattle.cost.proofs.RunByRun.{run-after, Counting, counting-start, counting-next, counting-end}
+use Rattle.cost.proofs.RunByRun.{Counting, counting-start, counting-next, counting-end}
 use Rattle.cost.proofs.count_runs.Statement.{statement}
 use Rattle.cost.proofs.count_runs.Tie as tie
 
@@ -21,8 +21,19 @@ count-runs-spec =
     Inv-loop
     μ-loop
     (λ c. counting-start _)
+    (λ c. search needs)
+    (λ c. search needs)
+    (λ c. search needs)
+    (λ c. search needs)
+    (λ c. search needs)
+    (λ c. search needs)
+    (λ c κs. c .before .before .before .before .before .pre .2 _ (c .before .before .loop-test .taken))
     (λ c κs. search needs)
-    (λ c. omega arith)
-    (λ c. omega (arith, run-after (c .before .before .before .before .args .rows .now) (c .before .before .loop .i)))
-    (λ c. rw (c .run-end .ensures) (counting-next _ _ _ (c .before .before .loop .inv) (c .before .loop-test .taken)))
-    (λ c. counting-end _ _ _ (c .before .loop .inv) (c .loop-test .left)))
+    (λ c. search needs)
+    (λ c. search needs)
+    (λ c. search needs)
+    (λ c.
+    let turn = c .before .before .before .before in
+    counting-next _ _ _ (turn .before .loop .inv) (turn .loop-test .taken) (c .before .touches .ensures) (c .one-unless .ensures))
+    (λ c. let s = c .before .before .before .pre in let v = c .before .loop .inv in omega (arith, s .0, s .1, v .few, v .within))
+    (λ c. counting-end _ _ _ (c .before .loop .inv) (c .before .before .before .pre .0) (c .loop-test .left)))

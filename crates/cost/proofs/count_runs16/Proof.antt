@@ -4,15 +4,15 @@ use Prim.Native.Nat.{_-_}
 use native.Mathlib.Omega.{arith}
 use borrow.Author.Needs.{needs}
 use lib.ListN.{length}
-use Rattle.cost.proofs.RunByRun.{run-after, Counting, counting-start, counting-next, counting-end}
+use Rattle.cost.proofs.RunByRun.{Counting, counting-start, counting-next, counting-end}
 use Rattle.cost.proofs.count_runs16.Statement.{statement}
 use Rattle.cost.proofs.count_runs16.Tie as tie
 
 abbrev Inv-loop : tie.InvT-loop
-Inv-loop rows runs₀ i₀ runs i = Counting rows runs i
+Inv-loop ordinals runs₀ i₀ runs i = Counting ordinals runs i
 
 abbrev μ-loop : tie.MeasureT-loop
-μ-loop rows runs₀ i₀ runs i = length rows - i
+μ-loop ordinals runs₀ i₀ runs i = length ordinals - i
 
 pub count-runs16-spec : {M : Type 1} → statement M
 count-runs16-spec =
@@ -21,8 +21,19 @@ count-runs16-spec =
     Inv-loop
     μ-loop
     (λ c. counting-start _)
+    (λ c. search needs)
+    (λ c. search needs)
+    (λ c. search needs)
+    (λ c. search needs)
+    (λ c. search needs)
+    (λ c. search needs)
     (λ c κs. search needs)
-    (λ c. omega arith)
-    (λ c. omega (arith, run-after (c .before .before .before .before .args .ordinals .now) (c .before .before .loop .i)))
-    (λ c. rw (c .run-end16 .ensures) (counting-next _ _ _ (c .before .before .loop .inv) (c .before .loop-test .taken)))
-    (λ c. counting-end _ _ _ (c .before .loop .inv) (c .loop-test .left)))
+    (λ c κs. search needs)
+    (λ c. search needs)
+    (λ c. search needs)
+    (λ c. search needs)
+    (λ c.
+    let turn = c .before .before .before .before in
+    counting-next _ _ _ (turn .before .loop .inv) (turn .loop-test .taken) (c .before .touches16 .ensures) (c .one-unless .ensures))
+    (λ c. let s = c .before .before .before .pre in let v = c .before .loop .inv in omega (arith, s .0, s .1, v .few, v .within))
+    (λ c. counting-end _ _ _ (c .before .loop .inv) (c .before .before .before .pre .0) (c .loop-test .left)))

@@ -3,6 +3,8 @@
 use mathlib.Core.Path.{sym, _∙_}
 use native.Mathlib.Omega.{arith}
 use borrow.Author.Needs.{needs}
+use Prim.Native.Nat.{_+_}
+use Rattle.model.proofs.Rising.{rising-strict}
 use Rattle.cost.proofs.Positions.{stats-rows, covered-few, covered-at}
 use Rattle.cost.proofs.rows_stats.Statement.{statement}
 use Rattle.cost.proofs.rows_stats.Tie as tie
@@ -11,7 +13,7 @@ pub rows-stats-spec : {M : Type 1} → statement M
 rows-stats-spec =
     tie.close
     (tie.spec
-    (λ c κs. covered-few _ _ (c .before .pre))
+    (λ c κs. let p = c .before .pre in (p .some, covered-few _ _ p, λ i h. rising-strict (p .rising) i (i + 1) (omega arith) h))
     (λ c. search needs)
     (λ c κs. covered-at _ _ 0 (c .before .before .before .pre) (c .before .before .before .pre .some))
     (λ c. search needs)

@@ -1,23 +1,24 @@
--- `emit::list_ordinals` meets its contract: run after run.
+-- `emit::list_ordinals` meets its contract: item after item.
 -- Assumes nothing.
 use Prim.Native.Nat.{_+_, _-_}
 use native.Mathlib.Omega.{arith}
 use borrow.Author.Needs.{needs}
 use lib.ListN.{length}
 use Rattle.fields.specs.Le.{widthOf}
+use Rattle.cost.specs.Rows.{positionsOf}
+use Rattle.cost.proofs.Positions.{length-positions}
 use Rattle.emit.proofs.Emitting.{emitting-length}
-use Rattle.model.proofs.Rising.{rising-room}
-use Rattle.emit.proofs.Forms.{listForm}
-use Rattle.emit.proofs.Passing.{Passing, pass-start}
-use Rattle.emit.proofs.Loops.{row-at, ends, list-fits, list-next, list-done}
+use Rattle.emit.proofs.Pieces.{Items, items-start, items-room, items-next, items-end}
+use Rattle.emit.proofs.Passing.{row-inside, row-first}
+use Rattle.emit.proofs.Loops.{row-at}
 use Rattle.emit.proofs.list_ordinals.Statement.{statement}
 use Rattle.emit.proofs.list_ordinals.Tie as tie
 
 abbrev Inv-loop : tie.InvT-loop
-Inv-loop out₀ at ordinals base wide p₀ i₀ out p i = Passing (listForm (widthOf wide)) base 4294967295 ordinals out₀ at p i out
+Inv-loop out₀ at ordinals base wide w p₀ i₀ out p i = Items (widthOf wide) (positionsOf base ordinals) out₀ at p i out
 
 abbrev μ-loop : tie.MeasureT-loop
-μ-loop out₀ at ordinals base wide p₀ i₀ out p i = length ordinals - i
+μ-loop out₀ at ordinals base wide w p₀ i₀ out p i = length ordinals - i
 
 pub list-ordinals-spec : {M : Type 1} → statement M
 list-ordinals-spec =
@@ -25,25 +26,21 @@ list-ordinals-spec =
     (tie.spec
     Inv-loop
     μ-loop
-    (λ c. pass-start _ _ _ _ _ _ (c .before .before .pre .0))
     (λ c κs. search needs)
+    (λ c. items-start _ _ _ _)
     (λ c. search needs)
     (λ c. search needs)
-    (λ c κs. row-at (c .before .before .before .before .before .before .before .pre .0) _ (c .before .before .before .loop-test .taken) .0)
-    (λ c. let k = c .before .before .before .before in omega (arith, ends _ _ (k .loop-test .taken) (c .before .before .before .run-end16 .ensures)))
-    (λ c.
-    let k = c .before .before .before .before in
-    omega (arith, ends _ _ (k .loop-test .taken) (c .before .before .before .run-end16 .ensures), rising-room (omega arith) (k .before .before .before .before .pre .0)))
+    (λ c κs. row-at (c .before .before .before .before .before .before .before .pre .0) _ (c .before .before .loop-test .taken) .0)
     (λ c κs.
-    let k = c .before .before .before .before in
-    let g = k .before .before .before .before .pre in
-    list-fits _ _ _ _ _ (g .0) (k .before .loop .inv) (k .loop-test .taken) (c .position16 .ensures) (c .before .before .before .run-end16 .ensures) (g .1))
+    let k = c .before .before .before in
+    items-room _ _ _ _ (k .before .loop .inv) (row-inside _ _ (k .loop-test .taken)) (k .before .before .before .before .before .pre .1))
     (λ c.
     let k = c .before .before .before .before .before .before in
-    omega (arith, ends _ _ (k .before .loop-test .taken) (k .run-end16 .ensures)))
+    omega (arith, items-room _ _ _ _ (k .before .loop .inv) (row-inside _ _ (k .loop-test .taken)) (k .before .before .before .before .before .pre .1), emitting-length (k .before .loop .inv .so)))
+    (λ c. search needs)
+    (λ c. search needs)
     (λ c.
     let k = c .before .before .before .before .before .before in
-    let g = k .before .before .before .before .before .pre in
-    list-next _ _ _ _ _ (g .0) (k .before .before .loop .inv) (k .before .loop-test .taken) (c .before .before .before .position16 .ensures) (k .run-end16 .ensures) (c .before .before .list-run .ensures))
-    (λ c. emitting-length (c .before .loop .inv .so .so))
-    (λ c. list-done _ _ _ _ _ (c .before .before .before .before .pre .0) (c .before .loop .inv) (c .loop-test .left)))
+    items-next _ _ _ _ (k .before .loop .inv) (row-inside _ _ (k .loop-test .taken)) (row-first _ _ (k .loop-test .taken) (c .before .before .before .position16 .ensures)) (c .before .before .put-field .ensures) (rw (k .before .before .width .ensures)))
+    (λ c. emitting-length (c .before .loop .inv .so))
+    (λ c. items-end _ _ _ _ (c .before .loop .inv) (rw length-positions (c .loop-test .left))))

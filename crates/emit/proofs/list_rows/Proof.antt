@@ -1,23 +1,24 @@
--- `emit::list_rows` meets its contract: run after run.
+-- `emit::list_rows` meets its contract: item after item.
 -- Assumes nothing.
 use Prim.Native.Nat.{_+_, _-_}
 use native.Mathlib.Omega.{arith}
 use borrow.Author.Needs.{needs}
 use lib.ListN.{length}
 use Rattle.fields.specs.Le.{widthOf}
+use Rattle.cost.specs.Rows.{positionsOf}
+use Rattle.cost.proofs.Positions.{length-positions}
 use Rattle.emit.proofs.Emitting.{emitting-length}
-use Rattle.model.proofs.Rising.{rising-room}
-use Rattle.emit.proofs.Forms.{listForm}
-use Rattle.emit.proofs.Passing.{Passing, pass-start}
-use Rattle.emit.proofs.Loops.{row-at, ends, list-fits, list-next, list-done}
+use Rattle.emit.proofs.Pieces.{Items, items-start, items-room, items-next, items-end}
+use Rattle.emit.proofs.Passing.{row-inside, row-first}
+use Rattle.emit.proofs.Loops.{row-at}
 use Rattle.emit.proofs.list_rows.Statement.{statement}
 use Rattle.emit.proofs.list_rows.Tie as tie
 
 abbrev Inv-loop : tie.InvT-loop
-Inv-loop out₀ at rows base wide p₀ i₀ out p i = Passing (listForm (widthOf wide)) base 4294967295 rows out₀ at p i out
+Inv-loop out₀ at rows base wide w p₀ i₀ out p i = Items (widthOf wide) (positionsOf base rows) out₀ at p i out
 
 abbrev μ-loop : tie.MeasureT-loop
-μ-loop out₀ at rows base wide p₀ i₀ out p i = length rows - i
+μ-loop out₀ at rows base wide w p₀ i₀ out p i = length rows - i
 
 pub list-rows-spec : {M : Type 1} → statement M
 list-rows-spec =
@@ -25,25 +26,21 @@ list-rows-spec =
     (tie.spec
     Inv-loop
     μ-loop
-    (λ c. pass-start _ _ _ _ _ _ (c .before .before .pre .0))
     (λ c κs. search needs)
+    (λ c. items-start _ _ _ _)
     (λ c. search needs)
     (λ c. search needs)
-    (λ c κs. row-at (c .before .before .before .before .before .before .before .pre .0) _ (c .before .before .before .loop-test .taken))
-    (λ c. let k = c .before .before .before .before in omega (arith, ends _ _ (k .loop-test .taken) (c .before .before .before .run-end .ensures)))
-    (λ c.
-    let k = c .before .before .before .before in
-    omega (arith, ends _ _ (k .loop-test .taken) (c .before .before .before .run-end .ensures), rising-room (omega arith) (k .before .before .before .before .pre .0)))
+    (λ c κs. row-at (c .before .before .before .before .before .before .before .pre .0) _ (c .before .before .loop-test .taken))
     (λ c κs.
-    let k = c .before .before .before .before in
-    let g = k .before .before .before .before .pre in
-    list-fits _ _ _ _ _ (g .0) (k .before .loop .inv) (k .loop-test .taken) (c .position .ensures) (c .before .before .before .run-end .ensures) (g .1))
+    let k = c .before .before .before in
+    items-room _ _ _ _ (k .before .loop .inv) (row-inside _ _ (k .loop-test .taken)) (k .before .before .before .before .before .pre .1))
     (λ c.
     let k = c .before .before .before .before .before .before in
-    omega (arith, ends _ _ (k .before .loop-test .taken) (k .run-end .ensures)))
+    omega (arith, items-room _ _ _ _ (k .before .loop .inv) (row-inside _ _ (k .loop-test .taken)) (k .before .before .before .before .before .pre .1), emitting-length (k .before .loop .inv .so)))
+    (λ c. search needs)
+    (λ c. search needs)
     (λ c.
     let k = c .before .before .before .before .before .before in
-    let g = k .before .before .before .before .before .pre in
-    list-next _ _ _ _ _ (g .0) (k .before .before .loop .inv) (k .before .loop-test .taken) (c .before .before .before .position .ensures) (k .run-end .ensures) (c .before .before .list-run .ensures))
-    (λ c. emitting-length (c .before .loop .inv .so .so))
-    (λ c. list-done _ _ _ _ _ (c .before .before .before .before .pre .0) (c .before .loop .inv) (c .loop-test .left)))
+    items-next _ _ _ _ (k .before .loop .inv) (row-inside _ _ (k .loop-test .taken)) (row-first _ _ (k .loop-test .taken) (c .before .before .before .position .ensures)) (c .before .before .put-field .ensures) (rw (k .before .before .width .ensures)))
+    (λ c. emitting-length (c .before .loop .inv .so))
+    (λ c. items-end _ _ _ _ (c .before .loop .inv) (rw length-positions (c .loop-test .left))))
