@@ -18,7 +18,7 @@ use Rattle.model.specs.Answers.{Answer, accepted, refused, over}
 use Rattle.model.proofs.Tests.{either, pick-true, pick-false, both-true}
 use Rattle.model.proofs.Rising.{rising-room}
 use Rattle.model.proofs.Writing.{over-take}
-use Rattle.rowset.specs.Bodies.{accepts}
+use Rattle.bodies.specs.Bodies.{accepts}
 use Rattle.cost.specs.Rows.{positionsOf}
 use Rattle.planning.specs.Planning.{plannedForm, plannedBody, plannedSegments, plannedOffers, plannedValues, planNumber, planOf, planOut}
 use Rattle.planning.proofs.Accepted.{Planned, planned, plan-divided, plan-number, plan-accepted}

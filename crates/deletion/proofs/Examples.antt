@@ -11,7 +11,7 @@ use Rattle.search.specs.Search.{entry}
 use Rattle.lists.specs.Lists.{listAccepts, listNames, risesBelow, climbs}
 use Rattle.forms.specs.Forms.{byTag, localAccepts, localNames}
 use Rattle.single.specs.Single.{fit, viewOf, fieldsOk, namedIn, endsOk, viewAccepts, singleAccepts, singleNames}
-use Rattle.rowset.specs.Bodies.{accepts, names}
+use Rattle.bodies.specs.Bodies.{accepts, names}
 use Rattle.planning.specs.Planning.{answered}
 use Rattle.deletion.specs.Reading.{bodyLimit, blockFits, statedFit, codedNumber, sectionNumber, deletedOf, checkAnswer, containsAnswer, walkLeft}
 use Rattle.deletion.specs.Striking.{noDeletions, strikes, strikeOf, strikeWork}

@@ -11,7 +11,7 @@ use Rattle.model.specs.Lists.{Rising, none, has, below}
 use Rattle.model.specs.Answers.{accepted}
 use Rattle.model.proofs.Tests.{either, pick-true, pick-false}
 use Rattle.model.proofs.Standing.{has-at, has-index}
-use Rattle.rowset.proofs.Demands.{names-rising}
+use Rattle.bodies.proofs.Named.{names-rising}
 use Rattle.deletion.specs.Reading.{sectionNumber, deletedOf, sound, containsAnswer}
 use Rattle.deletion.specs.declared.Section.{Section}
 use Rattle.deletion.specs.declared.Section.the-variants as section

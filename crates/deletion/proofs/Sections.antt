@@ -12,7 +12,7 @@ use Rattle.model.specs.Tests.{pick}
 use Rattle.model.specs.Answers.{accepted, refused}
 use Rattle.model.proofs.Tests.{pick-true, pick-false, both-true, both-left, both-right}
 use Rattle.gather.proofs.Admitted.{passes}
-use Rattle.rowset.specs.Bodies.{accepts, names}
+use Rattle.bodies.specs.Bodies.{accepts, names}
 use Rattle.planning.specs.Planning.{answered}
 use Rattle.deletion.specs.Reading.{codedNumber, sectionNumber, deletedOf, statedOf, sound}
 use Rattle.deletion.specs.declared.Section.{Section}

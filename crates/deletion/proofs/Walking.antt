@@ -17,8 +17,8 @@ use Rattle.model.proofs.Tests.{order}
 use Rattle.model.proofs.Rising.{rising-below}
 use Rattle.model.proofs.Sets.{sets-append, sets-front}
 use Rattle.model.proofs.Writing.{over-none}
-use Rattle.rowset.specs.Bodies.{accepts, names}
-use Rattle.rowset.proofs.Demands.{names-rising}
+use Rattle.bodies.specs.Bodies.{accepts, names}
+use Rattle.bodies.proofs.Named.{names-rising}
 
 -- ---- a page is copied: i of its n numbers so far
 

@@ -10,7 +10,7 @@ use Rattle.model.specs.Tests.{pick, both}
 use Rattle.model.specs.Lists.{has, walkOf}
 use Rattle.model.specs.Answers.{Answer, accepted, refused, over}
 use Rattle.bitmap.specs.Body.{bitmapLength}
-use Rattle.rowset.specs.Bodies.{accepts, names}
+use Rattle.bodies.specs.Bodies.{accepts, names}
 use Rattle.planning.specs.Planning.{answered}
 use Rattle.deletion.specs.declared.Section.{Section}
 use Rattle.deletion.specs.declared.Section.the-variants as section

@@ -12,7 +12,7 @@ ghost use lib.Seq.{sets};
 ghost use Rattle.model.specs.Tests.{pick};
 ghost use Rattle.model.specs.Lists.{has, walkOf};
 ghost use Rattle.model.specs.Answers.{over, Walked};
-ghost use Rattle.rowset.specs.Bodies.{accepts, names};
+ghost use Rattle.bodies.specs.Bodies.{accepts, names};
 ghost use Rattle.rowset.specs.Calls.{filledOf};
 ghost use Rattle.deletion.specs.Reading.{countedOf, containedOf, bodyLimit, blockFits, statedFit, codedNumber, sectionNumber, deletedOf, statedOf, sound, checkAnswer, containsAnswer, walkAnswer, walkLeft};
 ghost use Rattle.plan.specs.Plans.{plannedOf};
@@ -90,10 +90,10 @@ fn coded_number(rows: u16, limit: usize, count: u16, tag: u8, body: &[u8]) -> u8
     if !stated_fit(rows, count, body.len()) {
         return 9;
     }
-    if !rowset::is_accepted(tag, rows as u32, body) {
+    if !bodies::check(tag, rows as u32, body) {
         return 8;
     }
-    if rowset::count(tag, rows as u32, body) != count {
+    if bodies::count(tag, rows as u32, body) != count {
         return 10;
     }
     0
@@ -130,7 +130,7 @@ fn present(tag: u8, rows: u16, body: &[u8], ordinal: u16) -> bool
     requires { ⌜ accepts tag rows (now body) ≡ true ⌝ }
     ensures { λ r. ⌜ r ≡ has (names tag rows (now (body .entry))) ordinal ⌝ }
 {
-    is_row(rowset::place(tag, rows as u32, body, ordinal as u32))
+    is_row(bodies::place(tag, rows as u32, body, ordinal as u32))
 }
 
 fn is_deleted(rows: u16, section: Section, body: &[u8], ordinal: u16) -> bool
@@ -166,13 +166,13 @@ fn copy(page: &[u32], n: usize, out: &mut [u16], at: usize)
     }
 }
 
-// n deleted ordinals from the k-th on into the output from `at` on: rowset writes positions of 32 bits, to a page.
+// n deleted ordinals from the k-th on into the output from `at` on: a walk writes positions of 32 bits, to a page.
 fn write_page(tag: u8, rows: u16, body: &[u8], k: usize, n: usize, out: &mut [u16], at: usize)
     requires { ⌜ (accepts tag rows (now body) ≡ true) × (n ≤ 64) × (k + n ≤ length (names tag rows (now body))) × (at + n ≤ length (now out)) ⌝ }
     ensures { λ _. ⌜ now (out .exit) ≡ sets (now (out .entry)) at (walkOf (names tag rows (now (body .entry))) k n) ⌝ }
 {
     let mut page = [0u32; 64];
-    rowset::write(tag, rows as u32, body, k as u16, &mut page);
+    bodies::walk(tag, rows as u32, body, k as u16, &mut page);
     copy(&page, n, out, at);
 }
 

@@ -25,7 +25,7 @@ use Rattle.forms.specs.Forms.{byTag, localAccepts, localNames, localLayout}
 use Rattle.single.specs.Single.{fit, viewOf, bitmapView, trimmedMissingView, fieldsOk, namedIn, endsOk, viewAccepts, singleAccepts, singleNames}
 use Rattle.single.specs.Layout.{firstOf, extentOf, plainLayout, trimmedLayout, singleLayout}
 use Rattle.segmented.specs.Segmented.{segmentedAccepts, segmentedNames, partAccepts, partNames}
-use Rattle.rowset.specs.Bodies.{accepts, names}
+use Rattle.bodies.specs.Bodies.{accepts, names}
 use Rattle.rowset.specs.Calls.{asked, validateOf}
 use Rattle.cost.specs.Sizes.{binary, depthOf}
 use Rattle.cost.specs.Statistics.{statsOf, joined}

@@ -11,7 +11,7 @@ use borrow.Author.Tests.{eq-eqb, ne-eqb, le-leb}
 use Rattle.model.specs.Tests.{pick, both}
 use Rattle.model.specs.Answers.{Answer, accepted, refused}
 use Rattle.model.proofs.Tests.{pick-true, pick-false}
-use Rattle.rowset.specs.Bodies.{accepts, names}
+use Rattle.bodies.specs.Bodies.{accepts, names}
 use Rattle.rowset.specs.Calls.{asked, validateOf, rankAnswer, selectAnswer, ranksAnswer, walkAnswer, segmentAnswer}
 use Rattle.tables.specs.Tables.{entriesOf, segmentsAnswer}
 use Rattle.gather.specs.declared.Gatherer.{Gatherer}

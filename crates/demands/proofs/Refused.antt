@@ -15,7 +15,7 @@ use Rattle.model.specs.Lists.{walkOf}
 use Rattle.model.specs.Answers.{Answer, refused, over}
 use Rattle.model.proofs.Tests.{either, pick-true, pick-false, both-second}
 use Rattle.directory.specs.declared.Segment.{Segment}
-use Rattle.rowset.specs.Bodies.{accepts, names}
+use Rattle.bodies.specs.Bodies.{accepts, names}
 use Rattle.rowset.specs.Calls.{asked, ranksOf, ranksAnswer, ranksLeft, walkAnswer, walkLeft}
 use Rattle.rowset.proofs.Asking.{length-ranks}
 use Rattle.tables.specs.Tables.{entriesOf, overTable, segmentsAnswer, segmentsLeft}

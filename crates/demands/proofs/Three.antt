@@ -15,10 +15,11 @@ use Rattle.model.specs.Answers.{Answer, accepted, over}
 use Rattle.model.proofs.Tests.{pick-true}
 use Rattle.model.proofs.Standing.{select-is}
 use Rattle.single.specs.Single.{viewOf}
-use Rattle.rowset.specs.Bodies.{accepts, names}
+use Rattle.bodies.specs.Bodies.{accepts, names}
 use Rattle.rowset.specs.Calls.{validateOf, rankAnswer, ranksOf, ranksAnswer, ranksLeft, selectAnswer, walkAnswer, walkLeft}
 use Rattle.rowset.proofs.Asking.{answers}
-use Rattle.rowset.proofs.Demands.{names-rising, names-some, names-most, no-second-body}
+use Rattle.bodies.proofs.Laws.{names-few}
+use Rattle.bodies.proofs.Named.{names-rising, names-some, no-second-body}
 use Rattle.cost.specs.Rows.{positionsOf}
 use Rattle.planning.specs.Planning.{planOf, planOut}
 use Rattle.demands.proofs.Two.{tagIn, bodyIn, plan-holds, bitmap-flag}
@@ -59,7 +60,7 @@ module _ (tag span : ℕ) (body : List ℕ) (ok : accepts tag span body ≡ true
   names-one = record {
     rising = names-rising tag span body ok bytes;
     some = names-some tag span body ok bytes;
-    most = names-most tag span body ok bytes;
+    most = names-few tag span body ok bytes;
     counts = sym (answers tag span body ok refl);
     ranks = λ p. sym (answers tag span body ok refl);
     many = λ ps old h.

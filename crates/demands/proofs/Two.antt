@@ -26,8 +26,8 @@ use Rattle.single.specs.Single.{viewOf, bitmapView, trimmedMissingView}
 use Rattle.single.specs.Layout.{firstOf, extentOf, plainLayout, trimmedLayout, singleLayout}
 use Rattle.single.proofs.Laid.{single-layout}
 use Rattle.single.proofs.Named.{single-parts}
-use Rattle.rowset.specs.Bodies.{accepts, names}
-use Rattle.rowset.proofs.Laws.{names-other, nine, other}
+use Rattle.bodies.specs.Bodies.{accepts, names}
+use Rattle.bodies.proofs.Laws.{names-other, nine, other}
 use Rattle.cost.specs.Rows.{positionsOf}
 use Rattle.planning.specs.Bodies.{segmentedLayout}
 use Rattle.planning.specs.Planning.{plannedValues, planNumber, planOf, planOut}

@@ -13,7 +13,7 @@ use Rattle.directory.specs.Directory.{directoryAccepts, segmentsFit, segmentFit
 use Rattle.forms.specs.Forms.{byTag, localAccepts, localNames}
 use Rattle.single.specs.Single.{fit, viewOf, fieldsOk, namedIn, endsOk, viewAccepts, singleAccepts, singleNames}
 use Rattle.segmented.specs.Segmented.{segmentedAccepts, segmentedNames, partAccepts, partNames}
-use Rattle.rowset.specs.Bodies.{accepts, names}
+use Rattle.bodies.specs.Bodies.{accepts, names}
 use Rattle.rowset.specs.Calls.{asked, rankAnswer, selectAnswer, walkLeft, segmentAnswer, valuesOf}
 use Rattle.model.specs.Answers.{accepted, over}
 use Rattle.directory.specs.Directory as directory-specs

@@ -19,7 +19,7 @@ use Rattle.directory.specs.declared.Segment.{Segment}
 use Rattle.directory.specs.Layout.{directoryLayout}
 use Rattle.directory.proofs.LaidOut.{Small, Sound, length-layout, segments-stated, entry-laid, laid-accepts, names-laid, payload-laid}
 use Rattle.segmented.specs.Segmented.{partAccepts, partNames, segmentedAccepts, segmentedNames}
-use Rattle.rowset.specs.Bodies.{accepts, names}
+use Rattle.bodies.specs.Bodies.{accepts, names}
 use Rattle.planning.specs.Bodies.{segmentAt, tagOf, payloadOf, payloadAt, entriesOf, segmentedLayout}
 use Rattle.planning.proofs.Parts.{tag-local, tag-small, extent-end, own-back, own-count, payload-accepts, payload-names}
 

@@ -24,7 +24,7 @@ use Rattle.forms.proofs.Laid.{LocalFits, layout-accepts, layout-names, fits-den
 use Rattle.single.specs.Single.{view, fit, viewOf, bitmapView, trimmedMissingView, fieldsOk, partIn, namedIn, endsOk, viewAccepts, singleAccepts, singleNames}
 use Rattle.single.specs.Layout.{firstOf, extentOf, plainLayout, trimmedLayout, singleLayout}
 use Rattle.single.specs.declared.View.{View}
-use Rattle.rowset.specs.Bodies.{accepts, names}
+use Rattle.bodies.specs.Bodies.{accepts, names}
 use Rattle.cost.specs.declared.Form.{Form}
 use Rattle.cost.specs.Statistics.{statsOf}
 use Rattle.cost.specs.Forms.{denseForm, itemsForm, bitmapForm, wholeForm}

@@ -1,27 +1,26 @@
 -- The answers of the public calls: an accepted body is asked, any other is refused.
 -- Assumes nothing.
 use mathlib.Core.Path.{_≡_, refl, sym, ap, _∙_}
-use mathlib.Core.Bool.{Bool, true, false}
+use mathlib.Core.Bool.{true, false}
 use mathlib.Core.List.{List, [], _∷_, _++_}
 use Prim.Native.Nat.{ℕ, _+_, _<_, _≤_}
 use native.Mathlib.Numerals.{add-one}
 use native.Mathlib.Omega.{arith}
 use lib.Dec.{ltb}
-use lib.ListN.{length, getD, take, drop, set}
+use lib.ListN.{length, getD, take, set}
 use borrow.Author.Tests.{lt-ltb, le-ltb}
 use lib.Seq.{take-suc, length-take-le, take-all}
 use Rattle.fields.specs.Le.{Bytes}
-use Rattle.model.specs.Tests.{pick}
-use Rattle.model.specs.Lists.{placeOf, rankOf, selectOf, walkOf}
+use Rattle.model.specs.Lists.{placeOf, rankOf, selectOf}
 use Rattle.model.specs.Answers.{Answer, accepted, refused, over}
 use Rattle.model.specs.declared.Place.{Place}
 use Rattle.model.proofs.Tests.{pick-true, pick-false}
 use Rattle.model.proofs.Standing.{below-most, select-is, select-none}
 use Rattle.model.proofs.Writing.{over-none, over-length, over-next}
 use Rattle.directory.specs.Directory.{statedSegments}
-use Rattle.rowset.specs.Bodies.{accepts, names}
+use Rattle.bodies.specs.Bodies.{accepts, names}
 use Rattle.rowset.specs.Calls.{asked, rowOf, rankOrNone, ranksOf}
-use Rattle.rowset.proofs.Laws.{names-few}
+use Rattle.bodies.proofs.Laws.{names-few}
 
 -- ---- refused, or asked
 

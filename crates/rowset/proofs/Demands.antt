@@ -1,55 +1,23 @@
--- What document 01 demands of reading, of every tag: each accepted body names exactly one rising list, rank and select undo each
--- other on it, and a walk is the selects in order.
+-- What document 01 demands of reading, of every tag: rank and select undo each other on the list that an accepted body names, and a
+-- walk is the selects in order.
 -- Assumes nothing.
 use mathlib.Core.Path.{_≡_, sym, ap, _∙_}
 use mathlib.Core.Bool.{true}
-use mathlib.Core.Logic.{⊎-elim}
 use mathlib.Core.List.{List, [], _∷_}
-use Prim.Native.Nat.{ℕ, _+_, _-_, _<_, _≤_, min}
+use Prim.Native.Nat.{ℕ, _+_, _-_, _<_, min}
 use native.Mathlib.Omega.{arith}
 use lib.ListN.{length, getD, drop, length-take, length-drop}
 use lib.Seq.{getD-take, getD-drop}
 use Rattle.fields.specs.Le.{Bytes}
-use Rattle.model.specs.Lists.{Rising, below, has, walkOf}
+use Rattle.model.specs.Lists.{below, has, walkOf}
 use Rattle.model.specs.Answers.{accepted}
-use Rattle.model.proofs.Tests.{same-or-not}
-use Rattle.model.proofs.Rising.{rising-wider}
 use Rattle.model.proofs.Standing.{select-is, rank-is, rank-select, select-rank}
-use Rattle.single.specs.Single.{viewOf, singleNames}
-use Rattle.single.proofs.Laid.{one-body}
-use Rattle.single.proofs.Named.{single-parts, parts-count, whole-rising, whole-length}
-use Rattle.segmented.proofs.Named.{directory-of, segmented-rising, segmented-length}
-use Rattle.rowset.specs.Bodies.{accepts, names}
+use Rattle.bodies.specs.Bodies.{accepts, names}
 use Rattle.rowset.specs.Calls.{rankAnswer, selectAnswer}
-use Rattle.rowset.proofs.Laws.{names-nine, names-other, nine, other, names-few}
+use Rattle.bodies.proofs.Named.{names-rising}
 use Rattle.rowset.proofs.Asking.{answers}
 
 module _ (tag span : ℕ) (xs : List ℕ) (ok : accepts tag span xs ≡ true) (bytes : Bytes xs) where
-  -- ---- one rising list, not empty
-
-  pub names-rising : Rising 0 span (names tag span xs)
-  unfolding singleNames
-  names-rising =
-      ⊎-elim
-      (λ e. rw (names-nine tag span xs e) (segmented-rising span xs (nine tag span xs ok e) bytes))
-      (λ n.
-      let parts = single-parts tag span xs (other tag span xs ok n) in
-      rw (names-other tag span xs n) (rising-wider (omega arith) (parts .inside) (whole-rising (viewOf tag span xs) span xs parts bytes)))
-      (same-or-not tag 9)
-
-  pub names-some : 1 ≤ length (names tag span xs)
-  unfolding singleNames
-  names-some =
-      ⊎-elim
-      (λ e. rw (names-nine tag span xs e, segmented-length span xs (nine tag span xs ok e) bytes) (directory-of span xs (nine tag span xs ok e) .rows .some))
-      (λ n.
-      let parts = single-parts tag span xs (other tag span xs ok n) in
-      rw (names-other tag span xs n, whole-length (viewOf tag span xs) span xs parts bytes) (parts-count (viewOf tag span xs) span xs parts .some))
-      (same-or-not tag 9)
-
-  pub names-most : length (names tag span xs) ≤ 65535
-  names-most = names-few tag span xs ok bytes
-
   -- ---- rank and select
 
   -- the rank of what select answers for ordinal k is k
@@ -57,14 +25,14 @@ module _ (tag span : ℕ) (xs : List ℕ) (ok : accepts tag span xs ≡ true) (b
       → (selectAnswer tag span xs k ≡ accepted (getD (names tag span xs) k 0 ∷ [])) × (rankAnswer tag span xs (getD (names tag span xs) k 0) ≡ accepted (k ∷ []))
   unfolding selectAnswer rankAnswer
   rank-of-select k h =
-      (sym (answers tag span xs ok (ap accepted (sym (select-is (names tag span xs) k h)))), sym (answers tag span xs ok (ap accepted (sym (rank-select names-rising k h)))))
+      (sym (answers tag span xs ok (ap accepted (sym (select-is (names tag span xs) k h)))), sym (answers tag span xs ok (ap accepted (sym (rank-select (names-rising tag span xs ok bytes) k h)))))
 
   -- what select answers for the rank of a position that is named is that position
   pub select-of-rank : (p : ℕ) → has (names tag span xs) p ≡ true
       → (rankAnswer tag span xs p ≡ accepted (below (names tag span xs) p ∷ [])) × (selectAnswer tag span xs (below (names tag span xs) p) ≡ accepted (p ∷ []))
   unfolding selectAnswer rankAnswer
   select-of-rank p h =
-      (sym (answers tag span xs ok (ap accepted (sym (rank-is (names tag span xs) p h)))), sym (answers tag span xs ok (ap accepted (sym (select-rank names-rising p h)))))
+      (sym (answers tag span xs ok (ap accepted (sym (rank-is (names tag span xs) p h)))), sym (answers tag span xs ok (ap accepted (sym (select-rank (names-rising tag span xs ok bytes) p h)))))
 
   -- ---- walk: as many as fit or remain, each what select answers for its ordinal
 
@@ -79,11 +47,3 @@ module _ (tag span : ℕ) (xs : List ℕ) (ok : accepts tag span xs ≡ true) (b
       let left : k + i < length (names tag span xs) = omega arith in
       let same : getD (walkOf (names tag span xs) k room) i 0 ≡ getD (names tag span xs) (k + i) 0 = getD-take room (drop k (names tag span xs)) i 0 fits ∙ getD-drop k (names tag span xs) i 0 in
       sym (answers tag span xs ok (ap accepted (ap (λ (x : ℕ). x ∷ []) same ∙ sym (select-is (names tag span xs) (k + i) left))))
-
--- ---- T2: no second accepted body of a tag and span names the list, a bitmap's plain and trimmed forms held apart. A segmented body
--- states where its segments lie, so two of them may name one list
-
-pub no-second-body : (tag span : ℕ) (xs ys : List ℕ) → (tag ≡ 9 → ⊥) → accepts tag span xs ≡ true → accepts tag span ys ≡ true → Bytes xs → Bytes ys
-    → (tag ≡ 6 → viewOf tag span xs .trimmed ≡ viewOf tag span ys .trimmed) → names tag span xs ≡ names tag span ys → xs ≡ ys
-no-second-body tag span xs ys n ok ok′ b b′ flag e =
-    one-body tag span xs ys (other tag span xs ok n) (other tag span ys ok′ n) b b′ flag (sym (names-other tag span xs n) ∙ e ∙ names-other tag span ys n)

@@ -1,4 +1,3 @@
-pub mod Laws
 pub mod Asking
 pub mod Same
 pub mod Demands

@@ -1,8 +1,7 @@
 -- What the public calls answer, in document 01's numbers and values, and what they leave in a lent slice.
 -- Assumes nothing.
-use mathlib.Core.Bool.{Bool, true, false}
 use mathlib.Core.List.{List, [], _∷_}
-use Prim.Native.Nat.{ℕ, zero, suc, _+_, _-_}
+use Prim.Native.Nat.{ℕ}
 use lib.Dec.{eqb, leb, ltb}
 use lib.ListN.{length}
 use Rattle.model.specs.Tests.{pick}
@@ -11,7 +10,7 @@ use Rattle.model.specs.declared.Place.{Place}
 use Rattle.model.specs.Answers.{Answer, accepted, refused, over}
 use Rattle.directory.specs.Directory.{statedSegments, entryOf}
 use Rattle.directory.specs.declared.Segment.{Segment}
-use Rattle.rowset.specs.Bodies.{accepts, names}
+use Rattle.bodies.specs.Bodies.{accepts, names}
 use Rattle.rowset.specs.declared.Checked.{Checked}
 use Rattle.rowset.specs.declared.Checked.the-variants as checked
 use Rattle.rowset.specs.declared.Ranked.{Ranked}

@@ -3,11 +3,10 @@ use directory::Segment;
 use model::Place;
 ghost use mathlib.Core.Path.{_≡_};
 ghost use mathlib.Core.Bool.{true};
-ghost use Prim.Native.Nat.{_≤_, _<_};
-ghost use lib.ListN.{length, getD};
-ghost use Rattle.model.specs.Lists.{placeOf, walkOf};
-ghost use Rattle.model.specs.Answers.{accepted, over, Walked};
-ghost use Rattle.rowset.specs.Bodies.{accepts, names};
+ghost use Prim.Native.Nat.{_≤_};
+ghost use lib.ListN.{length};
+ghost use Rattle.model.specs.Answers.{accepted, over};
+ghost use Rattle.bodies.specs.Bodies.{accepts, names};
 ghost use Rattle.rowset.specs.Calls.{checkedOf, rankedOf, selectedOf, filledOf, entryAnswer, validateOf, rankAnswer, selectAnswer, rowOf, rankOrNone, ranksOf, ranksAnswer, ranksLeft, walkAnswer, walkLeft, segmentAnswer};
 
 // The count of an accepted body.
@@ -43,66 +42,13 @@ pub enum Entry {
     Refused,
 }
 
-// ---- what every call stands on
-
-pub fn is_accepted(tag: u8, span: u32, body: &[u8]) -> bool
-    ensures { λ r. ⌜ r ≡ accepts tag span (now (body .entry)) ⌝ }
-{
-    if tag == 9 {
-        return segmented::check(span, body);
-    }
-    single::check(tag, span, body)
-}
-
-pub fn count(tag: u8, span: u32, body: &[u8]) -> u16
-    requires { ⌜ accepts tag span (now body) ≡ true ⌝ }
-    ensures { λ r. ⌜ r ≡ length (names tag span (now (body .entry))) ⌝ }
-{
-    if tag == 9 {
-        return fields::read16(body, 0);
-    }
-    single::parse(tag, span, body).count
-}
-
-pub fn place(tag: u8, span: u32, body: &[u8], p: u32) -> Place
-    requires { ⌜ accepts tag span (now body) ≡ true ⌝ }
-    ensures { λ r. ⌜ r ≡ placeOf (names tag span (now (body .entry))) p ⌝ }
-{
-    if tag == 9 {
-        return segmented::place(span, body, p);
-    }
-    single::place(single::parse(tag, span, body), body, p)
-}
-
-fn position(tag: u8, span: u32, body: &[u8], k: u16) -> u32
-    requires { ⌜ (accepts tag span (now body) ≡ true) × (k < length (names tag span (now body))) ⌝ }
-    ensures { λ r. ⌜ r ≡ getD (names tag span (now (body .entry))) k 0 ⌝ }
-{
-    if tag == 9 {
-        return segmented::select(span, body, k);
-    }
-    single::select(single::parse(tag, span, body), body, k)
-}
-
-pub fn write(tag: u8, span: u32, body: &[u8], k: u16, out: &mut [u32]) -> usize
-    requires { ⌜ accepts tag span (now body) ≡ true ⌝ }
-    ensures { λ r. ⌜ Walked (walkOf (names tag span (now (body .entry))) k (length (now (out .entry)))) (now (out .entry)) (now (out .exit)) r ⌝ }
-{
-    if tag == 9 {
-        return segmented::walk(span, body, k, out);
-    }
-    single::walk(single::parse(tag, span, body), body, k, out)
-}
-
-// ---- the calls
-
 pub fn validate(tag: u8, span: u32, body: &[u8]) -> Checked
     ensures { λ r. ⌜ checkedOf r ≡ validateOf tag span (now (body .entry)) ⌝ }
 {
-    if !is_accepted(tag, span, body) {
+    if !bodies::check(tag, span, body) {
         return Checked::Refused;
     }
-    Checked::Rows(count(tag, span, body))
+    Checked::Rows(bodies::count(tag, span, body))
 }
 
 // An ordinal where the position is a row.
@@ -119,22 +65,22 @@ fn of_place(q: Place) -> Ranked
 pub fn rank(tag: u8, span: u32, body: &[u8], position: u32) -> Ranked
     ensures { λ r. ⌜ rankedOf r ≡ rankAnswer tag span (now (body .entry)) position ⌝ }
 {
-    if !is_accepted(tag, span, body) {
+    if !bodies::check(tag, span, body) {
         return Ranked::Refused;
     }
-    of_place(place(tag, span, body, position))
+    of_place(bodies::place(tag, span, body, position))
 }
 
 pub fn select(tag: u8, span: u32, body: &[u8], ordinal: u16) -> Selected
     ensures { λ r. ⌜ selectedOf r ≡ selectAnswer tag span (now (body .entry)) ordinal ⌝ }
 {
-    if !is_accepted(tag, span, body) {
+    if !bodies::check(tag, span, body) {
         return Selected::Refused;
     }
-    if count(tag, span, body) <= ordinal {
+    if bodies::count(tag, span, body) <= ordinal {
         return Selected::Nothing;
     }
-    Selected::Position(position(tag, span, body, ordinal))
+    Selected::Position(bodies::select(tag, span, body, ordinal))
 }
 
 // The rank of one query, or the number that stands for nothing.
@@ -151,7 +97,7 @@ fn write_ranks(tag: u8, span: u32, body: &[u8], positions: &[u32], out: &mut [u3
     let n = positions.len();
     let mut i = 0;
     while i < n {
-        out[i] = rank_or(place(tag, span, body, positions[i]));
+        out[i] = rank_or(bodies::place(tag, span, body, positions[i]));
         i += 1;
     }
 }
@@ -161,7 +107,7 @@ pub fn ranks(tag: u8, span: u32, body: &[u8], positions: &[u32], out: &mut [u32]
     ensures { λ r. ⌜ filledOf r ≡ ranksAnswer tag span (now (body .entry)) (now (positions .entry)) (length (now (out .entry))) ⌝ }
     ensures { λ _. ⌜ now (out .exit) ≡ ranksLeft tag span (now (body .entry)) (now (positions .entry)) (now (out .entry)) ⌝ }
 {
-    if !is_accepted(tag, span, body) {
+    if !bodies::check(tag, span, body) {
         return Filled::Refused(8);
     }
     if out.len() < positions.len() {
@@ -176,17 +122,17 @@ pub fn walk(tag: u8, span: u32, body: &[u8], from: u16, out: &mut [u32]) -> Fill
     ensures { λ r. ⌜ filledOf r ≡ walkAnswer tag span (now (body .entry)) from (length (now (out .entry))) ⌝ }
     ensures { λ _. ⌜ now (out .exit) ≡ walkLeft tag span (now (body .entry)) from (now (out .entry)) ⌝ }
 {
-    if !is_accepted(tag, span, body) {
+    if !bodies::check(tag, span, body) {
         return Filled::Refused(8);
     }
-    Filled::Written(write(tag, span, body, from, out))
+    Filled::Written(bodies::walk(tag, span, body, from, out))
 }
 
 // The i-th entry of the directory: nothing for another tag, or past the end.
 pub fn segment(tag: u8, span: u32, body: &[u8], i: usize) -> Entry
     ensures { λ r. ⌜ entryAnswer r ≡ segmentAnswer tag span (now (body .entry)) i ⌝ }
 {
-    if !is_accepted(tag, span, body) {
+    if !bodies::check(tag, span, body) {
         return Entry::Refused;
     }
     if tag != 9 {

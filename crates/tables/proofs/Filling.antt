@@ -1,7 +1,7 @@
 -- The table filled entry by entry, and what an answer's count means for the body, the table and what is left in it.
 -- Assumes nothing.
 use mathlib.Core.Path.{_≡_, refl, sym, ap, _∙_}
-use mathlib.Core.Bool.{Bool, true, false}
+use mathlib.Core.Bool.{true, false}
 use mathlib.Core.Logic.{⊎-elim}
 use mathlib.Core.List.{List, [], _∷_, _++_, append-assoc}
 use Prim.Native.Nat.{ℕ, zero, suc, _+_, _*_, _<_, _≤_}
@@ -16,13 +16,10 @@ use Rattle.model.proofs.Tests.{either, order, same-or-not, pick-true, pick-fals
 use Rattle.directory.specs.Directory.{statedSegments, entryOf}
 use Rattle.directory.specs.declared.Segment.{Segment}
 use Rattle.segmented.proofs.Named.{directory-of}
-use Rattle.rowset.specs.Bodies.{accepts}
-use Rattle.rowset.specs.Calls.{checkedOf, validateOf}
-use Rattle.rowset.specs.declared.Checked.{Checked}
-use Rattle.rowset.specs.declared.Checked.the-variants as checked
-use Rattle.rowset.proofs.Laws.{nine}
+use Rattle.bodies.specs.Bodies.{accepts}
+use Rattle.bodies.proofs.Laws.{nine}
 use Rattle.rowset.proofs.Asking.{refuses, answers}
-use Rattle.tables.specs.Tables.{entriesOf, overTable, segmentsAnswer, segmentsLeft, isTaken, writtenIn}
+use Rattle.tables.specs.Tables.{entriesOf, overTable, segmentsAnswer, segmentsLeft, writtenIn}
 
 -- ---- one place at a time
 
@@ -75,23 +72,6 @@ pub entries-none : (tag : ℕ) (xs : List ℕ) → (tag ≡ 9 → ⊥) → lengt
 entries-none tag xs n = ap length (entries-other tag xs n)
 
 -- ---- what is decided with no store
-
--- a validated body is taken exactly where it is accepted
-taken-is : (tag span : ℕ) (xs : List ℕ) (c : Checked) → checkedOf c ≡ validateOf tag span xs → isTaken c ≡ accepts tag span xs
-unfolding isTaken checkedOf validateOf
-taken-is tag span xs (checked.Rows n) e =
-    ⊎-elim
-    (λ (ok : accepts tag span xs ≡ true). sym ok)
-    (λ (bad : accepts tag span xs ≡ false). absurd (omega (arith, ap (λ (a : Answer). a .number) (e ∙ sym (refuses tag span xs _ bad)))))
-    (either (accepts tag span xs))
-taken-is tag span xs checked.Refused e =
-    ⊎-elim
-    (λ (ok : accepts tag span xs ≡ true). absurd (omega (arith, ap (λ (a : Answer). a .number) (e ∙ sym (answers tag span xs ok refl)))))
-    (λ (bad : accepts tag span xs ≡ false). sym bad)
-    (either (accepts tag span xs))
-
-pub accepts-by : (tag span : ℕ) (xs : List ℕ) (c : Checked) {b : Bool} → checkedOf c ≡ validateOf tag span xs → b ≡ isTaken c → accepts tag span xs ≡ b
-accepts-by tag span xs c e q = sym (q ∙ taken-is tag span xs c e)
 
 -- a refusal's number is not 0
 refused-not : {a : Answer} (k : ℕ) → refused (suc k) ≡ a → a .number ≡ 0 → ⊥

@@ -13,7 +13,7 @@ use Rattle.model.specs.Answers.{accepted}
 use Rattle.model.proofs.Tests.{same-or-not, pick-true, pick-false, getD-tabulate}
 use Rattle.directory.specs.Directory.{statedSegments, entryOf}
 use Rattle.directory.specs.declared.Segment.{Segment}
-use Rattle.rowset.specs.Bodies.{accepts}
+use Rattle.bodies.specs.Bodies.{accepts}
 use Rattle.rowset.specs.Calls.{filledOf, valuesOf, segmentAnswer}
 use Rattle.rowset.specs.declared.Filled.{Filled}
 use Rattle.rowset.proofs.Asking.{answers}

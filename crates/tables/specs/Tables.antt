@@ -1,6 +1,5 @@
 -- One call fills a lent table of segment records from an accepted body of tag 9: what it answers, and what it leaves in the table.
 -- Assumes nothing.
-use mathlib.Core.Bool.{Bool, true, false}
 use mathlib.Core.List.{List, [], _∷_, _++_}
 use Prim.Native.Nat.{ℕ}
 use lib.Dec.{eqb, leb}
@@ -9,10 +8,8 @@ use Rattle.model.specs.Tests.{pick, tabulate}
 use Rattle.model.specs.Answers.{Answer, accepted, refused}
 use Rattle.directory.specs.Directory.{statedSegments, entryOf}
 use Rattle.directory.specs.declared.Segment.{Segment}
-use Rattle.rowset.specs.Bodies.{accepts}
+use Rattle.bodies.specs.Bodies.{accepts}
 use Rattle.rowset.specs.Calls.{asked}
-use Rattle.rowset.specs.declared.Checked.{Checked}
-use Rattle.rowset.specs.declared.Checked.the-variants as checked
 
 -- the entries of the directory: another tag than 9 has none
 unfoldable pub entriesOf : ℕ → List ℕ → List Segment
@@ -31,13 +28,6 @@ segmentsAnswer tag span xs room =
 unfoldable pub segmentsLeft : ℕ → ℕ → List ℕ → List Segment → List Segment
 segmentsLeft tag span xs old =
     pick (accepts tag span xs) (pick (leb (length (entriesOf tag xs)) (length old)) (overTable (entriesOf tag xs) old) old) old
-
--- ---- of answers
-
--- whether a validated body was accepted
-unfoldable pub isTaken : Checked → Bool
-isTaken (checked.Rows n) = true
-isTaken checked.Refused = false
 
 -- how many were written: none in a refusal
 unfoldable pub writtenIn : Answer → ℕ

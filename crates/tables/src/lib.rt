@@ -1,31 +1,20 @@
 // For tools: a lent table of segment records, filled from a segmented body in one call.
 use directory::Segment;
-use rowset::Checked;
 use rowset::Filled;
 ghost use mathlib.Core.Path.{_≡_};
 ghost use Prim.Native.Nat.{_+_, _*_, _≤_};
 ghost use lib.ListN.{length};
 ghost use Rattle.directory.specs.Directory.{entryOf};
 ghost use Rattle.rowset.specs.Calls.{filledOf};
-ghost use Rattle.tables.specs.Tables.{isTaken, writtenIn, segmentsAnswer, segmentsLeft};
+ghost use Rattle.tables.specs.Tables.{writtenIn, segmentsAnswer, segmentsLeft};
 
 // ---- what branches, so that the walk over the table has one loop and calls alone
-
-// Whether the body was accepted.
-fn is_taken(c: Checked) -> bool
-    ensures { λ r. ⌜ r ≡ isTaken c ⌝ }
-{
-    match c {
-        Checked::Rows(_) => true,
-        Checked::Refused => false,
-    }
-}
 
 // What `segments` answers, from the body and the room alone: nothing is stored.
 fn planned(tag: u8, span: u32, body: &[u8], room: usize) -> Filled
     ensures { λ r. ⌜ filledOf r ≡ segmentsAnswer tag span (now (body .entry)) room ⌝ }
 {
-    if !is_taken(rowset::validate(tag, span, body)) {
+    if !bodies::check(tag, span, body) {
         return Filled::Refused(8);
     }
     if tag != 9 {

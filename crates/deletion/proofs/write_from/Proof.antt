@@ -3,8 +3,8 @@
 use Prim.Native.Nat.{_-_}
 use native.Mathlib.Omega.{arith}
 use Rattle.fields.specs.Le.{Bytes}
-use Rattle.rowset.specs.Bodies.{names}
-use Rattle.rowset.proofs.Demands.{names-most}
+use Rattle.bodies.specs.Bodies.{names}
+use Rattle.bodies.proofs.Laws.{names-few}
 use Rattle.deletion.proofs.Walking.{Filling, filling-start, filling-length, filling-next, filling-end}
 use Rattle.deletion.proofs.write_from.Statement.{statement}
 use Rattle.deletion.proofs.write_from.Tie as tie
@@ -27,7 +27,7 @@ write-from-spec =
     (λ c. filling-start _ _ _ _ (c .before .before .pre .1) (c .before .before .pre .2))
     (λ c. omega arith)
     (λ c κs. tt)
-    (λ c. omega (arith, c .before .before .loop .inv .left, names-most _ _ _ (c .before .before .before .before .before .pre .0) (bytes (c .before .before .before .before))))
+    (λ c. omega (arith, c .before .before .loop .inv .left, names-few _ _ _ (c .before .before .before .before .before .pre .0) (bytes (c .before .before .before .before))))
     (λ c κs.
     let inv = c .before .before .before .loop .inv in
     (c .before .before .before .before .before .before .pre .0, omega (arith, c .before .page-of .ensures), omega (arith, inv .left, c .before .page-of .ensures), omega (arith, inv .room, filling-length inv, c .before .page-of .ensures)))

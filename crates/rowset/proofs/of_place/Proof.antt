@@ -1,6 +1,6 @@
 -- `rowset::of_place` meets its contract.
 -- Assumes nothing.
-use mathlib.Core.Path.{sym, _∙_, ap}
+use mathlib.Core.Path.{sym, ap}
 use Rattle.model.proofs.Tests.{pick-true, pick-false}
 use Rattle.model.specs.Answers.{accepted}
 use Rattle.rowset.specs.Calls.{rankedOf, rowOf}

@@ -20,7 +20,7 @@ rank-spec =
     tie.close
     (tie.spec
     (λ c κs. search needs)
-    (λ c. refuses _ _ _ _ (sym (c .before .is-accepted .ensures) ∙ not-true _ (c .if1 .taken)))
-    (λ c κs. (sym (c .before .is-accepted .ensures) ∙ not-false _ (c .if1 .left)))
-    (λ c κs. small-rank _ _ _ _ (sym (c .before .before .is-accepted .ensures) ∙ not-false _ (c .before .if1 .left)) (bytes (c .before .before .before)) (c .place .ensures))
-    (λ c. answers _ _ _ (sym (c .before .before .before .is-accepted .ensures) ∙ not-false _ (c .before .before .if1 .left)) (c .of-place .ensures ∙ ap (λ (q : Place). accepted (rowOf q)) (c .before .place .ensures) ∙ ap accepted (row-rank _ _))))
+    (λ c. refuses _ _ _ _ (sym (c .before .check .ensures) ∙ not-true _ (c .if1 .taken)))
+    (λ c κs. (sym (c .before .check .ensures) ∙ not-false _ (c .if1 .left)))
+    (λ c κs. small-rank _ _ _ _ (sym (c .before .before .check .ensures) ∙ not-false _ (c .before .if1 .left)) (bytes (c .before .before .before)) (c .place .ensures))
+    (λ c. answers _ _ _ (sym (c .before .before .before .check .ensures) ∙ not-false _ (c .before .before .if1 .left)) (c .of-place .ensures ∙ ap (λ (q : Place). accepted (rowOf q)) (c .before .place .ensures) ∙ ap accepted (row-rank _ _))))

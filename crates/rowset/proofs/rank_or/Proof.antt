@@ -1,9 +1,8 @@
 -- `rowset::rank_or` meets its contract.
 -- Assumes nothing.
-use mathlib.Core.Path.{sym, _∙_, ap}
+use mathlib.Core.Path.{sym}
 use Rattle.model.proofs.Tests.{pick-true, pick-false}
 use Rattle.rowset.specs.Calls.{rankOrNone}
-use borrow.Author.Needs.{needs}
 use Rattle.rowset.proofs.rank_or.Statement.{statement}
 use Rattle.rowset.proofs.rank_or.Tie as tie
 

@@ -5,10 +5,9 @@ use native.Mathlib.Omega.{arith}
 use borrow.Author.Tests.{not-true, not-false}
 use Rattle.model.specs.Answers.{accepted}
 use Rattle.model.proofs.Tests.{pick-true, pick-false}
-use borrow.Author.Tests.{eq-eqb, ne-eqb, lt-ltb, le-ltb}
-use Rattle.rowset.proofs.Laws.{nine, nine-room}
+use borrow.Author.Tests.{eq-eqb, ne-eqb}
+use Rattle.bodies.proofs.Laws.{nine, nine-room}
 use Rattle.segmented.proofs.Named.{directory-of}
-use Rattle.directory.proofs.Parts.{Directory}
 use Rattle.rowset.specs.Calls.{entryAnswer, segmentAnswer, valuesOf}
 use Rattle.rowset.proofs.Asking.{refuses, answers, entry-in, entry-past}
 use borrow.Author.Needs.{needs}
@@ -21,9 +20,9 @@ segment-spec =
     tie.close
     (tie.spec
     (λ c κs. search needs)
-    (λ c. refuses _ _ _ _ (sym (c .before .is-accepted .ensures) ∙ not-true _ (c .if1 .taken)))
-    (λ c. answers _ _ _ (sym (c .before .before .is-accepted .ensures) ∙ not-false _ (c .before .if1 .left)) (ap accepted (sym (pick-false _ _ (ne-eqb _ 9 (c .if2 .taken))))))
-    (λ c κs. omega (arith, nine-room _ _ _ (sym (c .before .before .is-accepted .ensures) ∙ not-false _ (c .before .if1 .left)) (c .if2 .left)))
-    (λ c. answers _ _ _ (sym (c .before .before .before .before .is-accepted .ensures) ∙ not-false _ (c .before .before .before .if1 .left)) (ap accepted (sym (pick-true _ _ (eq-eqb _ 9 (c .before .before .if2 .left)) ∙ pick-false _ _ (entry-past _ (c .before .segments .ensures .0) (c .if3 .taken))))))
-    (λ c κs. omega (arith, directory-of _ _ (nine _ _ _ (sym (c .before .before .before .before .is-accepted .ensures) ∙ not-false _ (c .before .before .before .if1 .left)) (c .before .before .if2 .left)) .room, c .before .segments .ensures .0))
-    (λ c. answers _ _ _ (sym (c .before .before .before .before .before .is-accepted .ensures) ∙ not-false _ (c .before .before .before .before .if1 .left)) (ap accepted (ap valuesOf (c .entry .ensures) ∙ sym (pick-true _ _ (eq-eqb _ 9 (c .before .before .before .if2 .left)) ∙ pick-true _ _ (entry-in _ (c .before .before .segments .ensures .0) (c .before .if3 .left)))))))
+    (λ c. refuses _ _ _ _ (sym (c .before .check .ensures) ∙ not-true _ (c .if1 .taken)))
+    (λ c. answers _ _ _ (sym (c .before .before .check .ensures) ∙ not-false _ (c .before .if1 .left)) (ap accepted (sym (pick-false _ _ (ne-eqb _ 9 (c .if2 .taken))))))
+    (λ c κs. omega (arith, nine-room _ _ _ (sym (c .before .before .check .ensures) ∙ not-false _ (c .before .if1 .left)) (c .if2 .left)))
+    (λ c. answers _ _ _ (sym (c .before .before .before .before .check .ensures) ∙ not-false _ (c .before .before .before .if1 .left)) (ap accepted (sym (pick-true _ _ (eq-eqb _ 9 (c .before .before .if2 .left)) ∙ pick-false _ _ (entry-past _ (c .before .segments .ensures .0) (c .if3 .taken))))))
+    (λ c κs. omega (arith, directory-of _ _ (nine _ _ _ (sym (c .before .before .before .before .check .ensures) ∙ not-false _ (c .before .before .before .if1 .left)) (c .before .before .if2 .left)) .room, c .before .segments .ensures .0))
+    (λ c. answers _ _ _ (sym (c .before .before .before .before .before .check .ensures) ∙ not-false _ (c .before .before .before .before .if1 .left)) (ap accepted (ap valuesOf (c .entry .ensures) ∙ sym (pick-true _ _ (eq-eqb _ 9 (c .before .before .before .if2 .left)) ∙ pick-true _ _ (entry-in _ (c .before .before .segments .ensures .0) (c .before .if3 .left)))))))

@@ -18,7 +18,7 @@ walk-spec =
     tie.close
     (tie.spec
     (λ c κs. search needs)
-    (λ c. (refuses _ _ _ _ (sym (c .before .is-accepted .ensures) ∙ not-true _ (c .if1 .taken)), sym (pick-false _ _ (sym (c .before .is-accepted .ensures) ∙ not-true _ (c .if1 .taken)))))
-    (λ c κs. (sym (c .before .before .is-accepted .ensures) ∙ not-false _ (c .before .if1 .left)))
+    (λ c. (refuses _ _ _ _ (sym (c .before .check .ensures) ∙ not-true _ (c .if1 .taken)), sym (pick-false _ _ (sym (c .before .check .ensures) ∙ not-true _ (c .if1 .taken)))))
+    (λ c κs. (sym (c .before .before .check .ensures) ∙ not-false _ (c .before .if1 .left)))
     (λ c. search needs)
-    (λ c. (answers _ _ _ (sym (c .before .before .before .before .before .is-accepted .ensures) ∙ not-false _ (c .before .before .before .before .if1 .left)) (ap (λ (n : ℕ). accepted (n ∷ [])) (c .before .before .write .ensures .number)), c .before .before .write .ensures .written ∙ sym (pick-true _ _ (sym (c .before .before .before .before .before .is-accepted .ensures) ∙ not-false _ (c .before .before .before .before .if1 .left))))))
+    (λ c. (answers _ _ _ (sym (c .before .before .before .before .before .check .ensures) ∙ not-false _ (c .before .before .before .before .if1 .left)) (ap (λ (n : ℕ). accepted (n ∷ [])) (c .before .before .walk .ensures .number)), c .before .before .walk .ensures .written ∙ sym (pick-true _ _ (sym (c .before .before .before .before .before .check .ensures) ∙ not-false _ (c .before .before .before .before .if1 .left))))))

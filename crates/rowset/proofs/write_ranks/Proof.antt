@@ -1,11 +1,9 @@
 -- `rowset::write_ranks` meets its contract.
 -- Assumes nothing.
-use mathlib.Core.Path.{sym, _∙_, ap}
 use native.Mathlib.Omega.{arith}
 use Prim.Native.Nat.{_-_}
-use Rattle.rowset.specs.Bodies.{names}
+use Rattle.bodies.specs.Bodies.{names}
 use Rattle.rowset.proofs.Asking.{Answering, answering-start, answering-length, answering-next, answering-end}
-use borrow.Author.Needs.{needs}
 use Rattle.rowset.proofs.write_ranks.Statement.{statement}
 use Rattle.rowset.proofs.write_ranks.Tie as tie
 

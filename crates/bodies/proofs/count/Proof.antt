@@ -1,11 +1,10 @@
--- `rowset::count` meets its contract.
+-- `bodies::count` meets its contract.
 -- Assumes nothing.
 use Rattle.fields.specs.Le.{Bytes}
-use Rattle.rowset.proofs.Laws.{nine-room, nine-count, other-header, other-count}
+use Rattle.bodies.proofs.Laws.{nine-room, nine-count, other-header, other-count}
 use native.Mathlib.Omega.{arith}
-use borrow.Author.Needs.{needs}
-use Rattle.rowset.proofs.count.Statement.{statement}
-use Rattle.rowset.proofs.count.Tie as tie
+use Rattle.bodies.proofs.count.Statement.{statement}
+use Rattle.bodies.proofs.count.Tie as tie
 
 bytes : (c : tie.After-shared-slice-known) → Bytes (c .before .args .body .now)
 bytes c i = c .shared-slice-known .given i .fits

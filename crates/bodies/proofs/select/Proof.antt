@@ -1,18 +1,16 @@
--- `rowset::position` meets its contract.
+-- `bodies::select` meets its contract.
 -- Assumes nothing.
-use mathlib.Core.Path.{sym, _∙_, ap}
 use Rattle.fields.specs.Le.{Bytes}
-use Rattle.rowset.proofs.Laws.{nine, nine-within, names-nine, other-header, other-readable, other-count, other-select}
+use Rattle.bodies.proofs.Laws.{nine, nine-within, names-nine, other-header, other-readable, other-count, other-select}
 use native.Mathlib.Omega.{arith}
-use borrow.Author.Needs.{needs}
-use Rattle.rowset.proofs.position.Statement.{statement}
-use Rattle.rowset.proofs.position.Tie as tie
+use Rattle.bodies.proofs.select.Statement.{statement}
+use Rattle.bodies.proofs.select.Tie as tie
 
 bytes : (c : tie.After-shared-slice-known) → Bytes (c .before .args .body .now)
 bytes c i = c .shared-slice-known .given i .fits
 
-pub position-spec : {M : Type 1} → statement M
-position-spec =
+pub select-spec : {M : Type 1} → statement M
+select-spec =
     tie.close
     (tie.spec
     (λ c κs. (nine _ _ _ (c .before .before .pre .0) (c .if1 .taken), nine-within _ _ _ (c .before .before .pre .0) (c .if1 .taken) (bytes (c .before)) (c .before .before .pre .1)))

@@ -1,18 +1,17 @@
--- `rowset::write` meets its contract.
+-- `bodies::walk` meets its contract.
 -- Assumes nothing.
-use mathlib.Core.Path.{sym, _∙_, ap}
 use Rattle.fields.specs.Le.{Bytes}
-use Rattle.rowset.proofs.Laws.{nine, names-nine, other-header, other-readable, other-walk}
+use Rattle.bodies.proofs.Laws.{nine, names-nine, other-header, other-readable, other-walk}
 use native.Mathlib.Omega.{arith}
 use borrow.Author.Needs.{needs}
-use Rattle.rowset.proofs.write.Statement.{statement}
-use Rattle.rowset.proofs.write.Tie as tie
+use Rattle.bodies.proofs.walk.Statement.{statement}
+use Rattle.bodies.proofs.walk.Tie as tie
 
 bytes : (c : tie.After-shared-slice-known) → Bytes (c .before .args .body .now)
 bytes c i = c .shared-slice-known .given i .fits
 
-pub write-spec : {M : Type 1} → statement M
-write-spec =
+pub walk-spec : {M : Type 1} → statement M
+walk-spec =
     tie.close
     (tie.spec
     (λ c κs. nine _ _ _ (c .before .before .before .before .pre) (c .before .if1 .taken))

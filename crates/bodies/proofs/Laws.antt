@@ -1,29 +1,24 @@
 -- An accepted body is a segmented one or a single local form, and each reader answers the list that it names.
 -- Assumes nothing.
-use mathlib.Core.Path.{_≡_, refl, sym, ap, _∙_}
-use mathlib.Core.Bool.{Bool, true, false}
+use mathlib.Core.Path.{_≡_, sym, _∙_}
+use mathlib.Core.Bool.{true}
 use mathlib.Core.Logic.{⊎-elim}
 use mathlib.Core.List.{List}
-use Prim.Native.Nat.{ℕ, _+_, _<_, _≤_}
+use Prim.Native.Nat.{ℕ, _<_, _≤_}
 use native.Mathlib.Omega.{arith}
-use lib.Dec.{eqb}
 use lib.ListN.{length, getD}
 use borrow.Author.Tests.{eq-eqb, ne-eqb}
-use Rattle.fields.specs.Le.{Bytes, le}
-use Rattle.model.specs.Tests.{pick}
-use Rattle.model.specs.Lists.{placeOf, walkOf, shift}
-use Rattle.model.specs.Answers.{Walked}
+use Rattle.fields.specs.Le.{Bytes}
+use Rattle.model.specs.Lists.{placeOf, walkOf}
 use Rattle.model.specs.declared.Place.{Place}
 use Rattle.model.proofs.Tests.{pick-true, pick-false, same-or-not}
-use Rattle.model.proofs.Counted.{Count}
 use Rattle.directory.specs.Directory.{statedCount}
-use Rattle.directory.proofs.Parts.{Directory}
-use Rattle.single.specs.Single.{headerOf, viewOf, namedIn, singleAccepts, singleNames, Readable, viewPlace, viewSelect, viewWalk}
+use Rattle.single.specs.Single.{headerOf, viewOf, singleAccepts, singleNames, Readable, viewPlace, viewSelect, viewWalk}
 use Rattle.single.specs.declared.View.{View}
 use Rattle.single.proofs.Named.{Parts, single-parts, parts-readable, parts-count, whole-length, view-place, view-select, view-walk, accepted-header}
 use Rattle.segmented.specs.Segmented.{segmentedAccepts, segmentedNames}
 use Rattle.segmented.proofs.Named.{directory-of, segmented-length}
-use Rattle.rowset.specs.Bodies.{accepts, names}
+use Rattle.bodies.specs.Bodies.{accepts, names}
 
 module _ (tag span : ℕ) (xs : List ℕ) where
   -- ---- which of the two it is

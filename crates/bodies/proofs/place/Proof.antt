@@ -1,11 +1,9 @@
--- `rowset::place` meets its contract.
+-- `bodies::place` meets its contract.
 -- Assumes nothing.
-use mathlib.Core.Path.{sym, _∙_, ap}
 use Rattle.fields.specs.Le.{Bytes}
-use Rattle.rowset.proofs.Laws.{nine, names-nine, other-header, other-readable, other-place}
-use borrow.Author.Needs.{needs}
-use Rattle.rowset.proofs.place.Statement.{statement}
-use Rattle.rowset.proofs.place.Tie as tie
+use Rattle.bodies.proofs.Laws.{nine, names-nine, other-header, other-readable, other-place}
+use Rattle.bodies.proofs.place.Statement.{statement}
+use Rattle.bodies.proofs.place.Tie as tie
 
 bytes : (c : tie.After-shared-slice-known) → Bytes (c .before .args .body .now)
 bytes c i = c .shared-slice-known .given i .fits
