@@ -10,7 +10,7 @@ use lib.ListN.{length, getD}
 use lib.Seq.{ext-getD}
 use borrow.Author.Tests.{le-leb}
 use Rattle.fields.specs.Le.{Bytes}
-use Rattle.model.specs.Lists.{Rising, rankOf, selectOf, walkOf}
+use Rattle.model.specs.Lists.{Rising, rankOf, selectOf, walkOf, positionsOf}
 use Rattle.model.specs.Answers.{Answer, accepted, over}
 use Rattle.model.proofs.Tests.{pick-true}
 use Rattle.model.proofs.Standing.{select-is}
@@ -19,7 +19,6 @@ use Rattle.rowset.specs.Bodies.{accepts, names}
 use Rattle.rowset.specs.Calls.{validateOf, rankAnswer, ranksOf, ranksAnswer, ranksLeft, selectAnswer, walkAnswer, walkLeft}
 use Rattle.rowset.proofs.Asking.{answers}
 use Rattle.rowset.proofs.Demands.{names-rising, names-some, names-most, no-second-body}
-use Rattle.cost.specs.Rows.{positionsOf}
 use Rattle.planning.specs.Planning.{planOf, planOut}
 use Rattle.demands.proofs.Two.{tagIn, bodyIn, plan-holds, bitmap-flag}
 

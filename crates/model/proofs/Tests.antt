@@ -56,6 +56,11 @@ pub pick-false : {A : Type 0} {t : Bool} (a b : A) → t ≡ false → pick t a 
 unfolding pick
 pick-false a b e = rw e
 
+pub pick-most : (t : Bool) (a b m : ℕ) → a ≤ m → b ≤ m → pick t a b ≤ m
+unfolding pick
+pick-most true a b m p q = p
+pick-most false a b m p q = q
+
 -- ---- both of two tests
 
 pub both-true : (a b : Bool) → a ≡ true → b ≡ true → both a b ≡ true
@@ -129,10 +134,6 @@ module _ {A : Type 0} (f : ℕ → A) where
       (λ q. rw q (getD-at (tabulate f n) (f n) [] d n (length-tabulate n)))
       (λ l. List·getD-append (tabulate f n) (f n ∷ []) d i (omega (arith, length-tabulate n)) ∙ getD-tabulate n i d l)
       (last-or-before h)
-
-  pub tabulate-step : (n : ℕ) → tabulate f (n + 1) ≡ tabulate f n ++ (f n ∷ [])
-  unfolding tabulate
-  tabulate-step n = rw add-one
 
 pub tabulate-same : {A : Type 0} (f g : ℕ → A) (n : ℕ) → ((i : ℕ) → i < n → f i ≡ g i) → tabulate f n ≡ tabulate g n
 unfolding tabulate
