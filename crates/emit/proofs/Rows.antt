@@ -6,16 +6,14 @@ use Prim.Native.Nat.{ℕ, suc, _+_, _-_, _<_, _≤_}
 use native.Mathlib.Omega.{arith}
 use lib.Dec.{eqb}
 use lib.ListN.{length, getD}
-use borrow.Author.Tests.{eq-eqb, eqb-true}
 use Rattle.model.specs.Lists.{Rising, none, more, positionsOf}
-use Rattle.model.proofs.Tests.{same-test}
+use Rattle.model.proofs.Tests.{same-eqb}
 use Rattle.model.proofs.Rising.{rising-from, rising-drop}
 use Rattle.cost.specs.Rows.{stretch, runEnd}
 use Rattle.model.proofs.Positions.{getD-positions, positions-drop}
 
 follows-same : (base x y : ℕ) → base ≤ x → base ≤ y → eqb (y - base) (suc (x - base)) ≡ eqb y (suc x)
-follows-same base x y p q =
-    same-test (eqb (y - base) (suc (x - base))) (eqb y (suc x)) (λ e. eq-eqb y (suc x) (omega (arith, eqb-true (y - base) (suc (x - base)) e))) (λ e. eq-eqb (y - base) (suc (x - base)) (omega (arith, eqb-true y (suc x) e)))
+follows-same base x y p q = same-eqb (y - base) (suc (x - base)) y (suc x) (λ e. omega arith) (λ e. omega arith)
 
 stretch-positions : {a b : ℕ} {ys : List ℕ} (base x : ℕ) → base ≤ x → base ≤ a → Rising a b ys → stretch (x - base) (positionsOf base ys) ≡ stretch x ys
 unfolding stretch positionsOf

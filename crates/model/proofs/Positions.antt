@@ -8,10 +8,9 @@ use native.Mathlib.Nat.{sub-zero}
 use native.Mathlib.Omega.{arith}
 use lib.Dec.{eqb}
 use lib.ListN.{length, getD, take, drop}
-use borrow.Author.Tests.{eq-eqb, eqb-true}
 use Rattle.model.specs.Tests.{pick}
 use Rattle.model.specs.Lists.{Rising, none, more, shift, positionsOf, onto, runsOf}
-use Rattle.model.proofs.Tests.{same-test}
+use Rattle.model.proofs.Tests.{same-eqb}
 use Rattle.model.proofs.Runs.{runs-cons}
 
 pub length-positions : (start : ℕ) (rows : List ℕ) → length (positionsOf start rows) ≡ length rows
@@ -71,8 +70,7 @@ positions-rising {a} {b} start h (more {x = x} l u r) =
 -- ---- a shift keeps the number of runs
 
 follows-shift : (b x y : ℕ) → eqb (b + y) (suc (b + x)) ≡ eqb y (suc x)
-follows-shift b x y =
-    same-test (eqb (b + y) (suc (b + x))) (eqb y (suc x)) (λ e. eq-eqb y (suc x) (omega (arith, eqb-true (b + y) (suc (b + x)) e))) (λ e. eq-eqb (b + y) (suc (b + x)) (omega (arith, eqb-true y (suc x) e)))
+follows-shift b x y = same-eqb (b + y) (suc (b + x)) y (suc x) (λ e. omega arith) (λ e. omega arith)
 
 pub runs-shift : (b : ℕ) (xs : List ℕ) → length (runsOf (shift b xs)) ≡ length (runsOf xs)
 unfolding shift runsOf onto
