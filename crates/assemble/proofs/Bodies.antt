@@ -8,13 +8,13 @@ use native.Mathlib.Omega.{arith}
 use lib.ListN.{length}
 use borrow.Author.Tests.{eq-eqb, ne-eqb}
 use Rattle.model.proofs.Tests.{pick-true, pick-false}
-use Rattle.model.specs.Lists.{Rising, runsOf}
+use Rattle.model.specs.Lists.{Rising, runsOf, positionsOf}
 use Rattle.cost.specs.declared.Stats.{Stats}
 use Rattle.cost.specs.declared.Form.{Form}
 use Rattle.cost.specs.Statistics.{statsOf}
-use Rattle.cost.specs.Rows.{positionsOf, Covered}
-use Rattle.cost.proofs.Joining.{runs-most}
-use Rattle.cost.proofs.Positions.{length-positions, positions-rising}
+use Rattle.cost.specs.Rows.{Covered}
+use Rattle.model.proofs.Runs.{runs-most}
+use Rattle.model.proofs.Positions.{length-positions, positions-rising}
 use Rattle.single.specs.Layout.{plainLayout, trimmedLayout, singleLayout}
 use Rattle.emit.specs.Written.{Written}
 use Rattle.planning.specs.Bodies.{segmentedLayout, layoutBy}

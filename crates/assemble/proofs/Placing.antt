@@ -12,15 +12,16 @@ use Rattle.model.specs.Tests.{flat, total}
 use Rattle.model.proofs.Tests.{flat-length-step}
 use Rattle.model.proofs.Pieces.{flat-length-le}
 use Rattle.model.proofs.Sums.{flat-total}
-use Rattle.model.proofs.Rising.{rising-wider}
-use Rattle.model.specs.Lists.{Rising}
+use Rattle.model.proofs.Rising.{rising-wider, rising-drop}
+use Rattle.model.specs.Lists.{Rising, positionsOf}
 use Rattle.cost.specs.declared.Stats.{Stats}
 use Rattle.cost.specs.declared.Form.{Form}
 use Rattle.cost.specs.Statistics.{statsOf, spanOf}
-use Rattle.cost.specs.Rows.{positionsOf, Covered}
+use Rattle.cost.specs.Rows.{Covered}
 use Rattle.cost.specs.Forms.{localForm, itemsForm, bitmapForm, denseForm}
 use Rattle.cost.proofs.Chosen.{Local, dense, list, runs, missing, bitmap, local-chosen}
-use Rattle.cost.proofs.Positions.{length-positions, positions-take, positions-drop, stats-rows, covered-sound}
+use Rattle.model.proofs.Positions.{length-positions, positions-take, positions-drop}
+use Rattle.cost.proofs.Positions.{stats-rows, covered-sound}
 use Rattle.single.specs.Layout.{firstOf, extentOf}
 use Rattle.merge.specs.Tables.{next, statAt}
 use Rattle.directory.specs.Directory.{directorySize}
@@ -29,7 +30,6 @@ use Rattle.directory.proofs.LaidOut.{length-layout}
 use Rattle.forms.specs.Forms.{localLayout}
 use Rattle.directory.specs.declared.Segment.{Segment}
 use Rattle.emit.specs.Written.{Written}
-use Rattle.emit.proofs.Rows.{rising-drop}
 use Rattle.encode.specs.Headers.{entryBytes}
 use Rattle.encode.specs.Segments.{Placed}
 use Rattle.encode.proofs.Wholes.{rising-ends, ends-in, trimmed-extent, trimmed-own}

@@ -4,11 +4,11 @@ use mathlib.Core.Path.{_≡_}
 use mathlib.Core.List.{List}
 use Prim.Native.Nat.{ℕ, _+_, _*_, _<_, _≤_}
 use lib.ListN.{length, getD}
-use Rattle.model.specs.Lists.{Rising}
+use Rattle.model.specs.Lists.{Rising, positionsOf}
 use Rattle.cost.specs.declared.Stats.{Stats}
 use Rattle.cost.specs.declared.Form.{Form}
 use Rattle.cost.specs.Statistics.{spanOf, Sound}
-use Rattle.cost.specs.Rows.{positionsOf, Covered}
+use Rattle.cost.specs.Rows.{Covered}
 use Rattle.cost.specs.Forms.{localForm}
 use Rattle.forms.specs.Forms.{localLayout}
 use Rattle.directory.specs.Directory.{directorySize}

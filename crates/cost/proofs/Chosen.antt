@@ -1,18 +1,17 @@
 -- Which form is the cheapest: one of those of document 01, where its condition holds.
 -- Assumes nothing.
-use mathlib.Core.Path.{_≡_, refl, sym, ap, _∙_}
-use mathlib.Core.Bool.{Bool, true, false}
+use mathlib.Core.Path.{_≡_}
+use mathlib.Core.Bool.{true, false}
 use mathlib.Core.Logic.{⊎-elim}
-use mathlib.Core.List.{List, [], _∷_, _++_}
 use Prim.Native.Nat.{ℕ, _+_, _-_, _*_, _<_, _≤_}
-use lib.Dec.{eqb, leb}
+use lib.Dec.{leb}
 use borrow.Author.Tests.{eqb-true, leb-true, leb-false}
 use Rattle.model.proofs.Tests.{either, pick-true, pick-false}
 use Rattle.cost.specs.declared.Stats.{Stats}
 use Rattle.cost.specs.declared.Form.{Form}
 use Rattle.cost.specs.Statistics.{spanOf, holesOf}
-use Rattle.cost.specs.Forms.{itemsForm, bitmapForm, denseForm, least, localOffers, localForm, runsForm, plainOffers, trimmedOffers, wholeForm}
-use Rattle.cost.proofs.Least.{Each, end, also, least-one}
+use Rattle.cost.specs.Forms.{itemsForm, bitmapForm, denseForm, localOffers, localForm, runsForm, plainOffers, trimmedOffers, wholeForm}
+use Rattle.cost.proofs.Least.{end, also, least-one}
 
 pub data Local (s : Stats) : Form → Type 0 where
   dense : holesOf s ≡ 0 → Local s denseForm

@@ -1,10 +1,10 @@
 -- The depth of a number: what the leading zeros of a word leave, and its bounds.
 -- Assumes nothing.
-use mathlib.Core.Path.{_≡_, refl, sym, ap, _∙_}
+use mathlib.Core.Path.{_≡_, refl, ap}
 use Prim.Native.Nat.{ℕ, zero, suc, _+_, _-_, _*_, _/_, _^_, _<_, _≤_}
-use native.Mathlib.Nat.{zero-lt-suc, pow-zero, pow-suc}
+use native.Mathlib.Nat.{pow-zero, pow-suc}
 use native.Mathlib.Omega.{arith}
-use lib.Count.{leadingZeros, leading-le}
+use lib.Count.{leadingZeros}
 use Rattle.cost.specs.Sizes.{binary, depthOf}
 
 pub binary-leading : (k n : ℕ) → binary k n + leadingZeros k n ≡ k

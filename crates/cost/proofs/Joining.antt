@@ -1,59 +1,20 @@
 -- Statistics of an append are the join of the statistics, and statistics of rising positions are sound.
 -- Assumes nothing.
-use mathlib.Core.Path.{_≡_, refl, sym, ap, _∙_}
-use mathlib.Core.Bool.{Bool, true, false}
+use mathlib.Core.Path.{_≡_, ap, _∙_}
 use mathlib.Core.Logic.{⊎-elim}
 use mathlib.Core.List.{List, [], _∷_, _++_}
-use Prim.Native.Nat.{ℕ, zero, suc, _+_, _-_, _<_, _≤_}
+use Prim.Native.Nat.{ℕ, suc, _+_, _-_, _≤_}
 use native.Mathlib.Omega.{arith}
 use lib.Dec.{eqb}
-use lib.ListN.{length, getD, length-append, List·getD-append}
+use lib.ListN.{length, getD, length-append}
 use lib.Seq.{getD-append-add}
 use Rattle.model.specs.Tests.{pick}
-use Rattle.model.specs.Lists.{Rising, none, more, Run, run, onto, runsOf}
+use Rattle.model.specs.Lists.{Rising, runsOf}
 use Rattle.model.proofs.Tests.{either, order}
-use Rattle.model.proofs.Rising.{rising-from, rising-below, rising-room, rising-rest, rising-apart}
+use Rattle.model.proofs.Runs.{runs-append, runs-some, runs-most}
+use Rattle.model.proofs.Rising.{rising-from, rising-below, rising-apart}
 use Rattle.cost.specs.declared.Stats.{Stats}
-use Rattle.cost.specs.Statistics.{statsOf, joined, spanOf, Sound, Neighbours}
-
--- ---- runs
-
--- one element more in front is a run more, but where it touches the first run
-onto-count : (x y : ℕ) (rs : List Run) → getD rs 0 (run 0 0) .start ≡ y → 1 ≤ length rs → length (onto x rs) + pick (eqb y (suc x)) 1 0 ≡ suc (length rs)
-unfolding onto pick
-onto-count x y [] e h = absurd (omega arith)
-onto-count x y (r ∷ rs) e h = rw (← e) (⊎-elim (λ t. rw t (omega arith)) (λ t. rw t (omega arith)) (either (eqb (r .start) (suc x))))
-
--- the runs of a list that is not empty start with its first element
-onto-start : (y : ℕ) (rs : List Run) → getD (onto y rs) 0 (run 0 0) .start ≡ y
-unfolding onto pick
-onto-start y [] = refl
-onto-start y (r ∷ rs) = ⊎-elim (λ e. rw e) (λ e. rw e) (either (eqb (r .start) (suc y)))
-
-onto-some : (y : ℕ) (rs : List Run) → 1 ≤ length (onto y rs)
-unfolding onto pick
-onto-some y [] = omega arith
-onto-some y (r ∷ rs) = ⊎-elim (λ e. rw e (omega arith)) (λ e. rw e (omega arith)) (either (eqb (r .start) (suc y)))
-
-pub runs-cons : (x y : ℕ) (ys : List ℕ) → length (runsOf (x ∷ y ∷ ys)) + pick (eqb y (suc x)) 1 0 ≡ suc (length (runsOf (y ∷ ys)))
-unfolding runsOf
-runs-cons x y ys = onto-count x y (onto y (runsOf ys)) (onto-start y (runsOf ys)) (onto-some y (runsOf ys))
-
--- two lists have the runs of each, but where the second goes on from the first
-pub runs-append : (x : ℕ) (xs : List ℕ) (y : ℕ) (ys : List ℕ) → length (runsOf ((x ∷ xs) ++ y ∷ ys)) + pick (eqb y (suc (getD (x ∷ xs) (length xs) 0))) 1 0 ≡ length (runsOf (x ∷ xs)) + length (runsOf (y ∷ ys))
-unfolding runsOf onto
-runs-append x [] y ys = omega (arith, runs-cons x y ys)
-runs-append x (z ∷ xs) y ys = omega (arith, runs-cons x z (xs ++ y ∷ ys), runs-cons x z xs, runs-append z xs y ys)
-
-pub runs-some : (x : ℕ) (xs : List ℕ) → 1 ≤ length (runsOf (x ∷ xs))
-unfolding runsOf
-runs-some x xs = onto-some x (runsOf xs)
-
-pub runs-most : (xs : List ℕ) → length (runsOf xs) ≤ length xs
-unfolding runsOf onto
-runs-most [] = omega arith
-runs-most (x ∷ []) = omega arith
-runs-most (x ∷ y ∷ ys) = omega (arith, runs-cons x y ys, runs-most (y ∷ ys))
+use Rattle.cost.specs.Statistics.{statsOf, joined, Sound, Neighbours}
 
 -- ---- statistics
 

@@ -1,16 +1,16 @@
 -- The stated bytes of each form are the length of its layout, by the statistics of the rows laid out.
 -- Assumes nothing.
-use mathlib.Core.Path.{_≡_, refl, sym, ap, _∙_}
+use mathlib.Core.Path.{_≡_, sym, ap, _∙_}
 use mathlib.Core.Bool.{Bool, true, false}
 use mathlib.Core.Logic.{⊎-elim}
-use mathlib.Core.List.{List, [], _∷_}
+use mathlib.Core.List.{List, []}
 use Prim.Native.Nat.{ℕ, zero, suc, _+_, _-_, _*_, _<_, _≤_}
 use native.Mathlib.Nat.{mul-comm, zero-add, eq-or-lt-of-le}
 use native.Mathlib.Omega.{arith}
 use lib.ListN.{length, getD}
-use Rattle.model.specs.Lists.{Rising, none, more, complement, runsOf}
+use Rattle.model.specs.Lists.{Rising, complement, runsOf, positionsOf}
 use Rattle.model.proofs.Complement.{complement-length}
-use Rattle.model.proofs.Rising.{rising-wider, rising-strict, rising-tests}
+use Rattle.model.proofs.Rising.{rising-strict, rising-tests}
 use Rattle.lists.specs.Lists.{listLayout}
 use Rattle.lists.proofs.Bytes.{length-layout}
 use Rattle.runs.specs.Runs.{runsLayout}
@@ -18,13 +18,11 @@ use Rattle.runs.proofs.Laid.{length-bytes}
 use Rattle.missing.specs.Missing.{missingLayout}
 use Rattle.bitmap.specs.Body.{bitmapLayout, bitmapLength}
 use Rattle.bitmap.proofs.Laying.{laid-length}
-use Rattle.cost.specs.declared.Stats.{Stats}
 use Rattle.cost.specs.Statistics.{statsOf, spanOf}
 use Rattle.cost.specs.declared.Form.{Form}
 use Rattle.cost.specs.Forms.{itemsForm, bitmapForm, denseForm, localForm, wholeForm}
-use Rattle.cost.specs.Rows.{positionsOf}
-use Rattle.cost.proofs.Joining.{stats-sound, reach}
-use Rattle.cost.proofs.Positions.{length-positions, runs-positions, positions-rising}
+use Rattle.cost.proofs.Joining.{reach}
+use Rattle.model.proofs.Positions.{length-positions, positions-rising, runs-positions}
 use Rattle.cost.proofs.Chosen.{Local, dense, list, runs, missing, bitmap, local-chosen, Whole, list32, list16, runs16, runs32, trimmed-bitmap, trimmed-missing, whole-chosen}
 
 -- ---- over the width, of any rows

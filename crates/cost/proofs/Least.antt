@@ -1,13 +1,13 @@
 -- The least of forms is least: none of those that may be taken has a lesser key, so none is shorter. And a local payload is short.
 -- Assumes nothing.
-use mathlib.Core.Path.{_≡_, refl, sym, ap, _∙_}
-use mathlib.Core.Bool.{Bool, true, false, false≢true}
+use mathlib.Core.Path.{_≡_, refl, sym, _∙_}
+use mathlib.Core.Bool.{true, false, false≢true}
 use mathlib.Core.Logic.{⊎-elim}
 use mathlib.Core.List.{List, [], _∷_}
 use Prim.Native.Nat.{ℕ, zero, suc, _+_, _-_, _*_, _<_, _≤_}
 use native.Mathlib.Nat.{le-trans, eq-or-lt-of-le}
 use native.Mathlib.Omega.{arith}
-use lib.Dec.{ltb, lit<}
+use lib.Dec.{lit<}
 use lib.ListN.{length, getD, replicate}
 use borrow.Author.Tests.{lt-ltb, le-ltb, eq-eqb}
 use Rattle.model.specs.Tests.{pick}
@@ -29,7 +29,7 @@ less-first : (x y : ℕ) (xs ys : List ℕ) → x < y → lex (x ∷ xs) (y ∷ 
 unfolding lex pick
 less-first x y xs ys h = rw (lt-ltb x y h)
 
-less-head : (x y : ℕ) (xs ys : List ℕ) → lex (x ∷ xs) (y ∷ ys) ≡ true → x ≤ y
+pub less-head : (x y : ℕ) (xs ys : List ℕ) → lex (x ∷ xs) (y ∷ ys) ≡ true → x ≤ y
 less-head x y xs ys e = ⊎-elim (λ m. never e (more-first x y xs ys m)) (λ l. l) (order y x)
 
 pub not-less-head : (x y : ℕ) (xs ys : List ℕ) → lex (x ∷ xs) (y ∷ ys) ≡ false → y ≤ x

@@ -1,6 +1,7 @@
 pub mod Depths
 pub mod Choices
 pub mod Least
+pub mod Bytes
 pub mod Joining
 pub mod RunByRun
 pub mod Positions

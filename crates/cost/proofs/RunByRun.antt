@@ -4,8 +4,8 @@ use mathlib.Core.Path.{_≡_, refl, sym, ap, _∙_}
 use mathlib.Core.Bool.{Bool, true, false}
 use mathlib.Core.Logic.{⊎-elim}
 use mathlib.Core.List.{List, [], _∷_}
-use Prim.Native.Nat.{ℕ, zero, suc, _+_, _-_, _<_, _≤_}
-use native.Mathlib.Nat.{zero-add, add-zero}
+use Prim.Native.Nat.{ℕ, suc, _+_, _-_, _<_, _≤_}
+use native.Mathlib.Nat.{add-zero}
 use native.Mathlib.Numerals.{add-one}
 use native.Mathlib.Omega.{arith}
 use lib.Dec.{eqb}
@@ -14,6 +14,7 @@ use lib.Seq.{drop-cons, drop-drop}
 use Rattle.model.specs.Tests.{pick}
 use Rattle.model.specs.Lists.{Run, run, onto, runsOf}
 use Rattle.model.proofs.Tests.{either, pick-true, pick-false}
+use Rattle.model.proofs.Runs.{runs-cons}
 use Rattle.cost.specs.Rows.{stretch, runEnd}
 
 -- ---- the first run of a list
@@ -89,11 +90,12 @@ module _ (rows : List ℕ) (i : ℕ) where
 
 -- a number in front of others begins a run of its own, unless the first of them follows it
 run-front : (x y : ℕ) (ys : List ℕ) → length (runsOf (x ∷ y ∷ ys)) ≡ pick {A = ℕ} (eqb y (suc x)) 0 1 + length (runsOf (y ∷ ys))
-unfolding runsOf onto pick
+unfolding pick
 run-front x y ys =
-    ap (λ (rs : List Run). length (onto x rs)) (first-run y ys)
-    ∙ ⊎-elim (λ e. rw e (omega arith)) (λ e. rw e (omega arith)) (either (eqb y (suc x)))
-    ∙ ap (λ (rs : List Run). pick {A = ℕ} (eqb y (suc x)) 0 1 + length rs) (sym (first-run y ys))
+    ⊎-elim
+    (λ e. rw e (omega (arith, rw e at (runs-cons x y ys))))
+    (λ e. rw e (omega (arith, rw e at (runs-cons x y ys))))
+    (either (eqb y (suc x)))
 
 -- what a loop has counted after i + 1 rows
 pub record Counting (rows : List ℕ) (runs i : ℕ) : Type 0 where

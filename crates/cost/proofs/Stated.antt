@@ -1,27 +1,22 @@
 -- The bytes that a form states are the length of its own layout: a segment's local layout, and a whole body's.
 -- Assumes nothing.
-use mathlib.Core.Path.{_≡_, refl, sym, ap, _∙_}
-use mathlib.Core.Bool.{Bool, true, false}
-use mathlib.Core.List.{List, [], _∷_, _++_}
-use Prim.Native.Nat.{ℕ, suc, _+_, _-_, _<_, _≤_}
+use mathlib.Core.Path.{_≡_, refl, _∙_}
+use mathlib.Core.List.{List, _++_}
+use Prim.Native.Nat.{ℕ, _+_, _-_, _≤_}
 use native.Mathlib.Omega.{arith}
-use lib.ListN.{length, getD, length-append}
+use lib.ListN.{length, length-append}
 use Rattle.fields.specs.Le.{digits}
 use Rattle.fields.proofs.Laws.{length-digits}
 use Rattle.model.specs.Tests.{pick}
-use Rattle.model.specs.Lists.{Rising, runsOf, lower}
-use Rattle.lists.specs.Lists.{listLayout}
+use Rattle.model.specs.Lists.{Rising, runsOf, positionsOf}
 use Rattle.runs.specs.Runs.{runsLayout}
 use Rattle.missing.specs.Missing.{missingLayout}
 use Rattle.bitmap.specs.Body.{bitmapLayout}
 use Rattle.forms.specs.Forms.{byTag, localLayout}
 use Rattle.single.specs.Layout.{firstOf, extentOf, plainLayout, trimmedLayout, singleLayout}
-use Rattle.cost.specs.declared.Stats.{Stats}
-use Rattle.cost.specs.declared.Form.{Form}
 use Rattle.cost.specs.Statistics.{statsOf, spanOf}
 use Rattle.cost.specs.Forms.{localForm, wholeForm}
 use Rattle.cost.proofs.Joining.{reach}
-use Rattle.cost.proofs.Positions.{positions-lower}
 use Rattle.cost.proofs.Layouts.{local-bytes, ownOf, Headed, whole-bytes}
 
 -- a segment: the layout of its rows counted from its first
@@ -45,9 +40,9 @@ extent : (xs : List ℕ) {a b : ℕ} → Rising a b xs → 1 ≤ length xs → e
 unfolding extentOf firstOf statsOf
 extent xs r some = omega (arith, reach r some)
 
-own : (xs : List ℕ) → lower (firstOf xs) xs ≡ ownOf xs
+own : (xs : List ℕ) → positionsOf (firstOf xs) xs ≡ ownOf xs
 unfolding firstOf
-own xs = sym (positions-lower (getD xs 0 0) xs)
+own xs = refl
 
 headed : (span : ℕ) (xs : List ℕ) {a b : ℕ} → Rising a b xs → 1 ≤ length xs → Headed singleLayout span xs
 unfolding singleLayout plainLayout trimmedLayout localLayout byTag pick
@@ -59,8 +54,8 @@ headed span xs r some = record {
   h5 = two 2 2 (length xs) (length (runsOf xs)) (runsLayout 4 xs);
   h6 = two 2 2 (length xs) 0 (bitmapLayout span xs);
   h7 = two 2 2 (length xs) 0 (missingLayout span xs);
-  t6 = four 2 2 4 4 (length xs) 1 (firstOf xs) (extentOf xs) (bitmapLayout (extentOf xs) (lower (firstOf xs) xs)) ∙ rw (extent xs r some, own xs);
-  t8 = three 4 2 2 (firstOf xs) (extentOf xs) (length xs) (missingLayout (extentOf xs) (lower (firstOf xs) xs)) ∙ rw (extent xs r some, own xs);
+  t6 = four 2 2 4 4 (length xs) 1 (firstOf xs) (extentOf xs) (bitmapLayout (extentOf xs) (positionsOf (firstOf xs) xs)) ∙ rw (extent xs r some, own xs);
+  t8 = three 4 2 2 (firstOf xs) (extentOf xs) (length xs) (missingLayout (extentOf xs) (positionsOf (firstOf xs) xs)) ∙ rw (extent xs r some, own xs);
 }
 
 -- a whole body, its header with it

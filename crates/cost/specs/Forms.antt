@@ -2,7 +2,7 @@
 -- Assumes nothing.
 use mathlib.Core.Bool.{Bool, true, false}
 use mathlib.Core.List.{List, [], _∷_, _++_}
-use Prim.Native.Nat.{ℕ, _+_, _-_, _*_, _≤_, _<_}
+use Prim.Native.Nat.{ℕ, _+_, _-_, _*_, _<_}
 use lib.Dec.{eqb, leb, ltb}
 use Rattle.model.specs.Tests.{pick}
 use Rattle.bitmap.specs.Body.{groupsOf, bitmapLength}
@@ -71,6 +71,10 @@ localOffers s =
 
 unfoldable pub localForm : Stats → Form
 localForm s = least (itemsForm 3 false (2 * s .count) (s .count)) (localOffers s)
+
+-- the bytes of a segment: those of its cheapest local form
+unfoldable pub payload : Stats → ℕ
+payload s = localForm s .bytes
 
 -- the runs of a whole row set: with 16-bit starts where every position has 16 bits, else with 32-bit ones
 unfoldable pub runsForm : Bool → ℕ → Form

@@ -1,16 +1,11 @@
--- Positions of rows, and the run that starts at an index.
+-- The run that starts at an index, and rows that planning can take.
 -- Assumes nothing.
 use mathlib.Core.List.{List, [], _∷_}
-use Prim.Native.Nat.{ℕ, suc, _+_, _-_, _<_, _≤_}
+use Prim.Native.Nat.{ℕ, suc, _+_, _≤_}
 use lib.Dec.{eqb}
 use lib.ListN.{length, getD, drop}
 use Rattle.model.specs.Tests.{pick}
 use Rattle.model.specs.Lists.{Rising}
-
--- the positions of rows in a coverage from start on
-unfoldable pub positionsOf : ℕ → List ℕ → List ℕ
-positionsOf start [] = []
-positionsOf start (r ∷ rs) = (r - start) ∷ positionsOf start rs
 
 -- how many go on from x by ones
 unfoldable pub stretch : ℕ → List ℕ → ℕ

@@ -1,4 +1,4 @@
--- The depth of a number, and the length of a bitmap.
+-- The depth of a number.
 -- Assumes nothing.
 use Prim.Native.Nat.{ℕ, zero, suc, _/_}
 
@@ -11,7 +11,3 @@ binary (suc k) (suc n) = suc (binary k (suc n / 2))
 -- the count of binary digits of n, 0 for 0: n has at most n of them
 unfoldable pub depthOf : ℕ → ℕ
 depthOf n = binary n n
-
--- the bytes of a bitmap of s positions: the form's own length
-abbrev pub bitmapLength : ℕ → ℕ
-bitmapLength s = Rattle.bitmap.specs.Body.bitmapLength s

@@ -17,9 +17,9 @@ use Rattle.model.specs.Lists.{has, walkOf}
 use Rattle.model.specs.Answers.{Answer, accepted, refused, over}
 use Rattle.model.proofs.Tests.{either, pick-true, pick-false, both-true}
 use Rattle.model.proofs.Rising.{rising-room}
+use Rattle.model.proofs.Positions.{positions-zero}
 use Rattle.model.proofs.Writing.{over-take}
 use Rattle.bodies.specs.Bodies.{accepts}
-use Rattle.cost.specs.Rows.{positionsOf}
 use Rattle.planning.specs.Planning.{plannedForm, plannedBody, plannedSegments, plannedOffers, plannedValues, planNumber, planOf, planOut}
 use Rattle.planning.proofs.Accepted.{Planned, planned, plan-divided, plan-number, plan-accepted}
 use Rattle.deletion.specs.Reading.{bodyLimit, blockFits, statedFit, codedNumber, sectionNumber, deletedOf, checkAnswer, containsAnswer, walkAnswer, walkLeft}
@@ -27,12 +27,6 @@ use Rattle.deletion.specs.Striking.{noDeletions, strikes, strikeOf, stri
 use Rattle.deletion.specs.declared.Section.{Section}
 use Rattle.deletion.specs.declared.Section.the-variants as section
 use Rattle.deletion.proofs.Sections.{answers, leaves}
-
--- ordinals are positions: the coverage starts at 0
-ordinals-positions : (ordinals : List ℕ) → positionsOf 0 ordinals ≡ ordinals
-unfolding positionsOf
-ordinals-positions [] = refl
-ordinals-positions (x ∷ xs) = rw (sub-zero x, ordinals-positions xs)
 
 -- the section that stands for a plan, and its body: as many bytes at the front of the output as the answer says
 abbrev pub struckSection : ℕ → List ℕ → Section
@@ -77,7 +71,7 @@ module _ (rows limit : ℕ) (ordinals : List ℕ) (words : ℕ) (out : List ℕ)
 
   pub struck-named : deletedOf rows (struckSection rows ordinals) (struckBody rows limit ordinals words out) ≡ ordinals
   unfolding deletedOf
-  struck-named = rw struck-front (rw (sub-zero rows) at (plan .holds .named) ∙ ordinals-positions ordinals)
+  struck-named = rw struck-front (rw (sub-zero rows) at (plan .holds .named) ∙ positions-zero ordinals)
 
   -- no test refuses it
   pub struck-taken : sectionNumber rows limit (struckSection rows ordinals) (struckBody rows limit ordinals words out) ≡ 0

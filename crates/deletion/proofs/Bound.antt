@@ -2,7 +2,7 @@
 -- of those.
 -- Assumes nothing.
 use mathlib.Core.Path.{_≡_, refl, sym, ap, _∙_}
-use mathlib.Core.Bool.{Bool, true, false}
+use mathlib.Core.Bool.{false}
 use mathlib.Core.Logic.{⊎-elim}
 use mathlib.Core.List.{List, [], _++_}
 use Prim.Native.Nat.{ℕ, _+_, _-_, _*_, _≤_}
@@ -13,11 +13,11 @@ use lib.ListN.{length}
 use borrow.Author.Tests.{le-leb}
 use Rattle.model.specs.Tests.{pick}
 use Rattle.model.specs.Answers.{Answer, refused}
-use Rattle.model.proofs.Tests.{either, pick-true, pick-false, both-true}
+use Rattle.model.proofs.Tests.{either, pick-true, pick-false, pick-most, both-true}
 use Rattle.bitmap.specs.Body.{bitmapLength}
 use Rattle.cost.specs.declared.Stats.{Stats}
 use Rattle.cost.specs.Forms.{itemsForm, bitmapForm, denseForm, always, plainOffers, trimmedOffers, wholeForm}
-use Rattle.cost.specs.Rows.{positionsOf}
+use Rattle.model.specs.Lists.{positionsOf}
 use Rattle.cost.specs.Statistics.{statsOf}
 use Rattle.cost.proofs.Least.{least-each}
 use Rattle.planning.specs.Refusals.{coverageFits, countFits, rowsFit, givenFit, roomFits, earlyNumber}
@@ -45,11 +45,6 @@ unfolding bodyLimit
 limit-short rows h = omega arith
 
 -- ---- the tests 1 to 5 give other numbers
-
-pick-most : (t : Bool) (a b m : ℕ) → a ≤ m → b ≤ m → pick t a b ≤ m
-unfolding pick
-pick-most true a b m p q = p
-pick-most false a b m p q = q
 
 pub early-most : (start end : ℕ) (rows seeds : List ℕ) (words : ℕ) → earlyNumber start end rows seeds words ≤ 5
 unfolding earlyNumber

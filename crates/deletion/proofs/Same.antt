@@ -10,22 +10,13 @@ use Rattle.deletion.specs.Reading.{countedOf, containedOf}
 use Rattle.plan.specs.Plans.{valuesOf}
 use Rattle.plan.specs.declared.Body.{Body}
 use Rattle.deletion.specs.Striking.{struckOf}
+use Rattle.model.proofs.Answers.{same-number, same-size, same-first}
 use Rattle.deletion.specs.declared.Counted.{Counted}
 use Rattle.deletion.specs.declared.Counted.the-variants as counted
 use Rattle.deletion.specs.declared.Contained.{Contained}
 use Rattle.deletion.specs.declared.Contained.the-variants as contained
 use Rattle.deletion.specs.declared.Struck.{Struck}
 use Rattle.deletion.specs.declared.Struck.the-variants as struck
-
--- what two equal answers have in common
-same-size : {a b : Answer} → a ≡ b → length (a .values) ≡ length (b .values)
-same-size e = ap (λ (x : Answer). length (x .values)) e
-
-same-first : {a b : Answer} → a ≡ b → getD (a .values) 0 0 ≡ getD (b .values) 0 0
-same-first e = ap (λ (x : Answer). getD (x .values) 0 0) e
-
-same-number : {a b : Answer} → a ≡ b → a .number ≡ b .number
-same-number e = ap (λ (x : Answer). x .number) e
 
 -- a plan from its values
 abbrev bodyFrom : List ℕ → Body

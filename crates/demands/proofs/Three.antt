@@ -10,7 +10,7 @@ use lib.ListN.{length, getD}
 use lib.Seq.{ext-getD}
 use borrow.Author.Tests.{le-leb}
 use Rattle.fields.specs.Le.{Bytes}
-use Rattle.model.specs.Lists.{Rising, rankOf, selectOf, walkOf}
+use Rattle.model.specs.Lists.{Rising, rankOf, selectOf, walkOf, positionsOf}
 use Rattle.model.specs.Answers.{Answer, accepted, over}
 use Rattle.model.proofs.Tests.{pick-true}
 use Rattle.model.proofs.Standing.{select-is}
@@ -20,7 +20,6 @@ use Rattle.rowset.specs.Calls.{validateOf, rankAnswer, ranksOf, ranksAnswer, ra
 use Rattle.rowset.proofs.Asking.{answers}
 use Rattle.bodies.proofs.Laws.{names-few}
 use Rattle.bodies.proofs.Named.{names-rising, names-some, no-second-body}
-use Rattle.cost.specs.Rows.{positionsOf}
 use Rattle.planning.specs.Planning.{planOf, planOut}
 use Rattle.demands.proofs.Two.{tagIn, bodyIn, plan-holds, bitmap-flag}
 

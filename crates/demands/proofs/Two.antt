@@ -12,7 +12,7 @@ use lib.ListN.{length, getD, take}
 use borrow.Author.Tests.{leb-false}
 use Rattle.fields.specs.Le.{digits, Bytes}
 use Rattle.model.specs.Tests.{pick, flat}
-use Rattle.model.specs.Lists.{Rising, lower, runsOf}
+use Rattle.model.specs.Lists.{Rising, runsOf, positionsOf}
 use Rattle.model.specs.Answers.{Answer}
 use Rattle.model.proofs.Tests.{either}
 use Rattle.lists.specs.Lists.{listLayout}
@@ -28,7 +28,6 @@ use Rattle.single.proofs.Laid.{single-layout}
 use Rattle.single.proofs.Named.{single-parts}
 use Rattle.bodies.specs.Bodies.{accepts, names}
 use Rattle.bodies.proofs.Laws.{names-other, nine, other}
-use Rattle.cost.specs.Rows.{positionsOf}
 use Rattle.planning.specs.Bodies.{segmentedLayout}
 use Rattle.planning.specs.Planning.{plannedValues, planNumber, planOf, planOut}
 use Rattle.planning.proofs.Singly.{Holds, dense, list32, list16, runs16, runs32, bitmap, trimmed-bitmap, missing, trimmed-missing, single-holds}
@@ -48,7 +47,7 @@ bitmapBody span rows = digits 2 (length rows) ++ digits 2 0 ++ bitmapLayout span
 
 -- count u16, flag 1, zero, base u32, local span u32; then the same counted from the first row
 abbrev pub trimmedBitmapBody : List ℕ → List ℕ
-trimmedBitmapBody rows = digits 2 (length rows) ++ digits 2 1 ++ digits 4 (firstOf rows) ++ digits 4 (extentOf rows) ++ bitmapLayout (extentOf rows) (lower (firstOf rows) rows)
+trimmedBitmapBody rows = digits 2 (length rows) ++ digits 2 1 ++ digits 4 (firstOf rows) ++ digits 4 (extentOf rows) ++ bitmapLayout (extentOf rows) (positionsOf (firstOf rows) rows)
 
 -- count u16, zero u16, holes u16
 abbrev pub missingBody : ℕ → List ℕ → List ℕ
@@ -56,7 +55,7 @@ missingBody span rows = digits 2 (length rows) ++ digits 2 0 ++ missingLayout sp
 
 -- base u32, local span u16, count u16, holes
 abbrev pub trimmedMissingBody : List ℕ → List ℕ
-trimmedMissingBody rows = digits 4 (firstOf rows) ++ digits 2 (extentOf rows) ++ digits 2 (length rows) ++ missingLayout (extentOf rows) (lower (firstOf rows) rows)
+trimmedMissingBody rows = digits 4 (firstOf rows) ++ digits 2 (extentOf rows) ++ digits 2 (length rows) ++ missingLayout (extentOf rows) (positionsOf (firstOf rows) rows)
 
 -- ---- T1: `Holds tag span rows body` is that the body is accepted under the tag and names the rows
 

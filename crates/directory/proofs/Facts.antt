@@ -1,30 +1,20 @@
 -- What an accepted directory says of its segments: starts and ordinals rise, payloads follow one another inside the body, and nothing passes 32 bits.
 -- Assumes nothing.
-use mathlib.Core.Path.{_≡_, sym, _∙_}
-use mathlib.Core.Bool.{Bool, true, false}
-use mathlib.Core.Logic.{_⊎_, ⊎-elim, inl, inr}
+use mathlib.Core.Path.{_≡_}
+use mathlib.Core.Bool.{false}
+use mathlib.Core.Logic.{_⊎_, ⊎-elim}
 use mathlib.Core.List.{List}
 use Prim.Native.Nat.{ℕ, zero, suc, _+_, _-_, _<_, _≤_}
 use native.Mathlib.Nat.{eq-or-lt-of-le}
 use native.Mathlib.Omega.{arith}
 use lib.ListN.{length, length-take, length-drop}
-use borrow.Author.Tests.{eqb-true}
-use Rattle.model.specs.Tests.{pick, total}
-use Rattle.model.proofs.Tests.{either, pick-false}
+use Rattle.model.specs.Tests.{total}
 use Rattle.model.proofs.Sums.{total-le, total-within}
 use Rattle.model.proofs.Windows.{windows-apart, windows-level}
 use Rattle.search.specs.Search.{upTo, Cut}
 use Rattle.search.proofs.Laws.{falls-level, at-most, above, find-cut}
-use Rattle.directory.specs.Directory.{statedCount, startAt, spanAt, countAt, ordinalAt, offsetAt, lengthAt, partOf, rowsBefore, directorySize, endBefore, isLocal, startsTo, ordinalsTo}
+use Rattle.directory.specs.Directory.{statedCount, startAt, spanAt, countAt, ordinalAt, offsetAt, lengthAt, partOf, rowsBefore, endBefore, startsTo, ordinalsTo}
 use Rattle.directory.proofs.Parts.{Directory}
-
--- the tags of local forms, one by one
-pub local-cases : (t : ℕ) → isLocal t ≡ true → (t ≡ 1) ⊎ ((t ≡ 3) ⊎ ((t ≡ 4) ⊎ ((t ≡ 6) ⊎ (t ≡ 7))))
-unfolding isLocal
-local-cases t e = choice _ _ e (λ a. inl (eqb-true t 1 a)) (λ e₁. inr (choice _ _ e₁ (λ a. inl (eqb-true t 3 a)) (λ e₂. inr (choice _ _ e₂ (λ a. inl (eqb-true t 4 a)) (λ e₃. inr (choice _ _ e₃ (λ a. inl (eqb-true t 6 a)) (λ e₄. inr (eqb-true t 7 e₄))))))))
-  where
-    choice : {A : Type 0} (a b : Bool) → pick a true b ≡ true → (a ≡ true → A) → (b ≡ true → A) → A
-    choice a b e f g = ⊎-elim (λ p. f p) (λ p. g (sym (pick-false true b p) ∙ e)) (either a)
 
 module _ {xs : List ℕ} {span n : ℕ} (d : Directory xs span n) where
   -- ---- starts
@@ -57,14 +47,6 @@ module _ {xs : List ℕ} {span n : ℕ} (d : Directory xs span n) where
   ordinals-level i j l h = rw (d .fit i (omega arith) .ordinal, d .fit j h .ordinal) (total-le (countAt xs) i j l)
 
   -- ---- payloads
-
-  pub payload-first : offsetAt xs 0 ≡ directorySize n
-  unfolding total
-  payload-first = d .fit 0 (d .some) .payload ∙ omega arith
-
-  pub payload-next : (i : ℕ) → suc i < n → offsetAt xs (suc i) ≡ offsetAt xs i + lengthAt xs i
-  unfolding total
-  payload-next i h = omega (arith, d .fit (suc i) h .payload, d .fit i (omega arith) .payload)
 
   pub payload-inside : (i : ℕ) → i < n → offsetAt xs i + lengthAt xs i ≤ length xs
   payload-inside i h = omega (arith, d .fit i h .payload, total-within (lengthAt xs) i n h, d .end)

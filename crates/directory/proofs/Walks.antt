@@ -13,9 +13,8 @@ use Rattle.model.proofs.Append.{shift-drop}
 use Rattle.model.proofs.Taking.{take-append}
 use Rattle.model.proofs.Pieces.{flat-split}
 use Rattle.model.proofs.Writing.{moved-walk}
-use Rattle.directory.specs.Directory.{statedSegments, startAt, countAt, ordinalAt, rowsBefore, pieceOf, namesOf}
+use Rattle.directory.specs.Directory.{statedSegments, startAt, countAt, rowsBefore, pieceOf, namesOf}
 use Rattle.directory.proofs.Parts.{Directory}
-use Rattle.directory.proofs.Facts.{Holds}
 use Rattle.directory.proofs.Names.{Named, piece-length, front-length, names-length}
 
 -- ---- what is left
@@ -47,19 +46,7 @@ module _ {xs : List ℕ} {span : ℕ} (d : Directory xs span (statedSegments xs)
       let after : drop (rowsBefore xs i + countAt xs i) (namesOf xs g) ≡ rest = names-rest i (countAt xs i) l (omega arith) ∙ rw z in
       names-rest i j l h ∙ rw after
 
-  pub names-from : (k i : ℕ) → Holds xs (statedSegments xs) k i
-      → drop k (namesOf xs g) ≡ shift (startAt xs i) (drop (k - ordinalAt xs i) (g i)) ++ flat (λ (m : ℕ). pieceOf xs g (suc i + m)) (statedSegments xs - suc i)
-  names-from k i h =
-      let e : rowsBefore xs i + (k - ordinalAt xs i) ≡ k = omega (arith, h .from, d .fit i (h .inside) .ordinal) in
-      rw e at (names-rest i (k - ordinalAt xs i) (h .inside) (omega (arith, h .within)))
-
   -- ---- the loop over the segments
-
-  pub walking-start : (k room i : ℕ) → Holds xs (statedSegments xs) k i → Walking xs g k room i (k - ordinalAt xs i) []
-  walking-start k room i h =
-      let e : rowsBefore xs i + (k - ordinalAt xs i) ≡ k = omega (arith, h .from, d .fit i (h .inside) .ordinal) in
-      let z : room - 0 ≡ room = omega arith in
-      record { within = omega (arith, h .inside); rows = λ l. omega (arith, h .within); whole = rw (e, z) }
 
   -- segment i writes as many as fit or remain, counted from its start in 32 bits
   pub walking-next : {k room i skip : ℕ} {written part : List ℕ} → span ≤ 4294967295 → Walking xs g k room i skip written → i < statedSegments xs

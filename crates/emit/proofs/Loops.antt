@@ -5,14 +5,14 @@ use mathlib.Core.List.{List, [], _∷_, _++_, append-nil}
 use Prim.Native.Nat.{ℕ, zero, suc, _+_, _-_, _*_, _<_, _≤_}
 use native.Mathlib.Omega.{arith}
 use lib.ListN.{length, getD}
-use Rattle.model.specs.Lists.{Rising, range, run, runsOf}
+use Rattle.model.specs.Lists.{Rising, range, run, runsOf, positionsOf}
 use Rattle.model.proofs.Ranges.{length-range}
 use Rattle.model.proofs.Rising.{rising-from, rising-below}
 use Rattle.lists.specs.Lists.{listLayout}
 use Rattle.lists.proofs.Bytes.{length-layout}
 use Rattle.missing.specs.Missing.{missingLayout}
 use Rattle.runs.specs.Runs.{runsBytes, runsLayout}
-use Rattle.cost.specs.Rows.{positionsOf, runEnd}
+use Rattle.cost.specs.Rows.{runEnd}
 use Rattle.cost.proofs.RunByRun.{run-after, run-within}
 use Rattle.emit.specs.Written.{Written}
 use Rattle.emit.proofs.Emitting.{Emitting, emitting-next, emitting-room, emitting-end}

@@ -5,9 +5,9 @@ use mathlib.Core.List.{List, [], _∷_, _++_}
 use Prim.Native.Nat.{ℕ, zero, suc, _+_, _-_, _<_, _≤_}
 use native.Mathlib.Omega.{arith}
 use lib.ListN.{length, getD}
-use Rattle.model.specs.Lists.{Rising, runsOf}
-use Rattle.cost.specs.Rows.{positionsOf, runEnd}
-use Rattle.cost.proofs.Positions.{length-positions, getD-positions, positions-rising}
+use Rattle.model.specs.Lists.{Rising, runsOf, positionsOf}
+use Rattle.cost.specs.Rows.{runEnd}
+use Rattle.model.proofs.Positions.{length-positions, getD-positions, positions-rising}
 use Rattle.emit.specs.Written.{Written}
 use Rattle.emit.proofs.Emitting.{Emitting, emitting-length, emitting-end}
 use Rattle.emit.proofs.Rows.{run-same}

@@ -22,7 +22,7 @@ use Rattle.model.specs.Tests.{flat}
 use Rattle.model.specs.Lists.{Rising, below}
 use Rattle.model.proofs.Sets.{sets-append}
 use Rattle.model.proofs.Tests.{either, order, never, strictly, last-or-before, same-or-not, pick-true, pick-false}
-use Rattle.model.proofs.Rising.{rising-strict, rising-below}
+use Rattle.model.proofs.Rising.{rising-strict, rising-below, rising-before}
 use Rattle.model.proofs.Standing.{below-cut}
 use Rattle.word.specs.Bits.{numFrom}
 use Rattle.word.proofs.Numbers.{num-lt, num-snoc}
@@ -31,10 +31,9 @@ use Rattle.emit.specs.declared.Word.{Word}
 use Rattle.emit.specs.Written.{Written}
 use Rattle.emit.specs.Words.{withDigit, countedAt, Cut, Worded}
 use Rattle.emit.proofs.Storing.{put-comm}
-use Rattle.emit.proofs.Rows.{rising-take}
 
 num-below : {b : ℕ} {xs : List ℕ} → Rising 0 b xs → (i : ℕ) → i < length xs → {start : ℕ} → start ≡ getD xs i 0 → numFrom 0 (take i xs) < 2 ^ start
-num-below {b} {xs} r i h {start} a = num-lt start 0 (take i xs) (rw (zero-add, a) (rising-take i r h))
+num-below {b} {xs} r i h {start} a = num-lt start 0 (take i xs) (rw (zero-add, a) (rising-before i r h))
 
 pow-word : (k : ℕ) → 256 ^ (8 * k) ≡ 2 ^ (64 * k)
 pow-word k = let e : 8 * (8 * k) ≡ 64 * k = omega arith in rw (pow-bytes, e)

@@ -5,12 +5,11 @@ ghost use Prim.Native.Nat.{_+_, _-_, _*_, _/_, _≤_};
 ghost use lib.Dec.{eqb};
 ghost use lib.ListN.{length};
 ghost use Rattle.fields.specs.Le.{put, widthOf};
-ghost use Rattle.model.specs.Lists.{Rising, range, run};
+ghost use Rattle.model.specs.Lists.{Rising, range, run, positionsOf};
 ghost use Rattle.lists.specs.Lists.{listLayout};
 ghost use Rattle.runs.specs.Runs.{runsBytes, runsLayout};
 ghost use Rattle.missing.specs.Missing.{missingLayout};
 ghost use Rattle.bitmap.specs.Body.{wordsOf, bitmapLength, bitmapLayout};
-ghost use Rattle.cost.specs.Rows.{positionsOf};
 ghost use Rattle.emit.specs.Written.{Written};
 ghost use Rattle.emit.specs.Words.{withDigit, countedAt, Cut, Worded};
 

@@ -12,14 +12,13 @@ use borrow.Author.Tests.{ne-eqb}
 use Rattle.fields.specs.Le.{widthOf}
 use Rattle.model.specs.Tests.{pick}
 use Rattle.model.proofs.Tests.{either, pick-true, pick-false}
-use Rattle.model.specs.Lists.{Rising}
+use Rattle.model.specs.Lists.{Rising, positionsOf}
 use Rattle.model.proofs.Rising.{rising-wider}
 use Rattle.lists.specs.Lists.{listLayout}
 use Rattle.missing.specs.Missing.{missingLayout}
 use Rattle.runs.specs.Runs.{runsLayout}
 use Rattle.bitmap.specs.Body.{bitmapLayout, bitmapLength}
 use Rattle.bitmap.proofs.Laying.{laid-length}
-use Rattle.cost.specs.Rows.{positionsOf}
 use Rattle.emit.specs.Written.{Written}
 use Rattle.emit.proofs.Passing.{positions-below}
 use Rattle.forms.specs.Forms.{localLayout, byTag}

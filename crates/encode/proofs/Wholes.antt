@@ -10,13 +10,13 @@ use lib.Dec.{eqb}
 use lib.ListN.{length, getD, length-append}
 use borrow.Author.Tests.{ne-eqb, lt-ltb, le-ltb}
 use Rattle.model.specs.Tests.{pick}
-use Rattle.model.specs.Lists.{Rising, runsOf, lower}
+use Rattle.model.specs.Lists.{Rising, runsOf, positionsOf}
 use Rattle.model.proofs.Rising.{rising-strict, rising-tests, rising-from, rising-below}
 use Rattle.forms.specs.Forms.{localLayout}
 use Rattle.single.specs.Layout.{firstOf, extentOf, plainLayout, trimmedLayout}
 use Rattle.single.proofs.Laws.{tag-cases}
-use Rattle.cost.specs.Rows.{positionsOf, Covered}
-use Rattle.cost.proofs.Positions.{length-positions, getD-positions}
+use Rattle.cost.specs.Rows.{Covered}
+use Rattle.model.proofs.Positions.{length-positions, getD-positions}
 use Rattle.emit.specs.Written.{Written}
 use Rattle.emit.proofs.Emitting.{written-more, written-length}
 use Rattle.encode.specs.Headers.{plainHeader, bitmapHeader, missingHeader}
@@ -57,21 +57,21 @@ plain-head tag span start rows {runs} e h = head-room (plainHeader tag (length r
 
 -- ---- from the first row to the last
 
-pub bitmap-cut : (rows : List ℕ) → trimmedLayout 6 rows ≡ bitmapHeader (firstOf rows) (extentOf rows) (length rows) ++ localLayout 6 (extentOf rows) (lower (firstOf rows) rows)
+pub bitmap-cut : (rows : List ℕ) → trimmedLayout 6 rows ≡ bitmapHeader (firstOf rows) (extentOf rows) (length rows) ++ localLayout 6 (extentOf rows) (positionsOf (firstOf rows) rows)
 unfolding trimmedLayout bitmapHeader pick
 bitmap-cut rows = refl
 
-pub missing-cut : (tag : ℕ) (rows : List ℕ) → (tag ≡ 6 → ⊥) → trimmedLayout tag rows ≡ missingHeader (firstOf rows) (extentOf rows) (length rows) ++ localLayout 7 (extentOf rows) (lower (firstOf rows) rows)
+pub missing-cut : (tag : ℕ) (rows : List ℕ) → (tag ≡ 6 → ⊥) → trimmedLayout tag rows ≡ missingHeader (firstOf rows) (extentOf rows) (length rows) ++ localLayout 7 (extentOf rows) (positionsOf (firstOf rows) rows)
 unfolding trimmedLayout missingHeader pick
 missing-cut tag rows n = rw (ne-eqb tag 6 n)
 
 -- rows counted from one of them, and their positions counted from its position
-lower-positions : (start c : ℕ) (rows : List ℕ) → start ≤ c → lower (c - start) (positionsOf start rows) ≡ positionsOf c rows
-unfolding lower positionsOf
-lower-positions start c [] h = refl
-lower-positions start c (x ∷ xs) h =
+positions-again : (start c : ℕ) (rows : List ℕ) → start ≤ c → positionsOf (c - start) (positionsOf start rows) ≡ positionsOf c rows
+unfolding positionsOf
+positions-again start c [] h = refl
+positions-again start c (x ∷ xs) h =
     let e : x - start - (c - start) ≡ x - c = omega arith in
-    rw (e, lower-positions start c xs h)
+    rw (e, positions-again start c xs h)
 
 -- a rising list is between its ends
 module _ {a b : ℕ} {xs : List ℕ} (r : Rising a b xs) (some : 1 ≤ length xs) where
@@ -108,8 +108,8 @@ module _ (start : ℕ) (rows : List ℕ) (k : Covered start rows) where
       let e = ends-in in
       rw (length-positions, trimmed-first, getD-positions start rows (length rows - 1) (omega arith)) (omega (arith, e .0, e .1))
 
-  pub trimmed-own : lower (firstOf P) P ≡ positionsOf (getD rows 0 0) rows
-  trimmed-own = rw trimmed-first (lower-positions start (getD rows 0 0) rows (ends-in .0))
+  pub trimmed-own : positionsOf (firstOf P) P ≡ positionsOf (getD rows 0 0) rows
+  trimmed-own = rw trimmed-first (positions-again start (getD rows 0 0) rows (ends-in .0))
 
   -- the layouts of rows counted from the first, behind the two headers
   module _ {base span n : ℕ} (b : base ≡ getD rows 0 0 - start) (e : span ≡ getD rows (length rows - 1) 0 - getD rows 0 0 + 1) (c : n ≡ length rows) where

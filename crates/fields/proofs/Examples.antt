@@ -1,8 +1,7 @@
 -- The definitions on written-out bytes: document 01's numbers.
 -- Assumes nothing.
 use mathlib.Core.Path.{_≡_, refl}
-use mathlib.Core.List.{List, [], _∷_}
-use Prim.Native.Nat.{ℕ}
+use mathlib.Core.List.{[], _∷_}
 use Rattle.fields.specs.Le.{le, digits, put}
 
 -- row 65536 as a 32-bit position: 00 00 01 00

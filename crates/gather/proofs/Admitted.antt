@@ -1,7 +1,7 @@
 -- What holds where tests 12, 3 and 2 passed: counts that cannot wrap, an entry in the table for each seed.
 -- Assumes nothing.
 use mathlib.Core.Path.{_≡_, refl, sym, ap, _∙_}
-use mathlib.Core.Bool.{Bool, true, false, _&&_}
+use mathlib.Core.Bool.{Bool, true, false}
 use mathlib.Core.Logic.{⊎-elim}
 use mathlib.Core.List.{List}
 use Prim.Native.Nat.{ℕ, zero, suc, _+_, _-_, _/_, _<_, _≤_}
@@ -9,7 +9,7 @@ use native.Mathlib.Omega.{arith}
 use lib.Dec.{eqb, ltb}
 use lib.ListN.{length, length-set}
 use borrow.Author.Tests.{ltb-false, le-ltb, eqb-true, eqb-false, eq-eqb, ne-eqb}
-use Rattle.model.specs.Tests.{both, pick}
+use Rattle.model.specs.Tests.{pick}
 use Rattle.model.specs.Answers.{Answer, accepted, refused}
 use Rattle.model.proofs.Tests.{either, never, pick-true, pick-false}
 use Rattle.gather.specs.declared.Gatherer.{Gatherer}
@@ -31,11 +31,6 @@ pub passes : (t : Bool) (k x : ℕ) → (k ≡ 0 → ⊥) → pick t x k ≡ 0 �
 unfolding pick
 passes true k x n e = (refl, e)
 passes false k x n e = absurd (n e)
-
-pub and-both : (a b : Bool) → (a && b) ≡ both a b
-unfolding both
-and-both true b = refl
-and-both false b = refl
 
 pub neither : (a b : ℕ) → orElse a b ≡ 0 → (a ≡ 0) × (b ≡ 0)
 unfolding orElse

@@ -5,11 +5,10 @@ use mathlib.Core.Bool.{true, false}
 use mathlib.Core.Logic.{_⊎_, ⊎-elim, inl, inr}
 use mathlib.Core.List.{List}
 use Prim.Native.Nat.{ℕ, _-_, _≤_}
-use native.Mathlib.Nat.{le-refl}
 use native.Mathlib.Omega.{arith}
 use lib.Dec.{eqb, ltb, leb}
 use lib.ListN.{length, getD, take, drop, length-drop}
-use lib.Seq.{take-all, length-take-le}
+use lib.Seq.{length-take-le}
 use borrow.Author.Tests.{leb-true, ltb-false}
 use Rattle.model.specs.Tests.{pick}
 use Rattle.model.proofs.Tests.{either, both-left, both-right}
@@ -25,10 +24,6 @@ pub record Sized (n : ℕ) : Type 0 where
 pub sized-bounds : (n : ℕ) → sized n ≡ true → Sized n
 unfolding sized
 sized-bounds n e = record { least = leb-true 5 n (both-left _ _ e); most = leb-true n 65540 (both-right (leb 5 n) _ e) }
-
--- the part of a slice from k to its end
-pub rest-part : (k : ℕ) (xs : List ℕ) → take (length xs - k) (drop k xs) ≡ drop k xs
-rest-part k xs = take-all (length xs - k) (drop k xs) (rw length-drop (le-refl (length xs - k)))
 
 -- ---- a whole record in front
 

@@ -3,7 +3,7 @@
 use mathlib.Core.Path.{_≡_, refl, sym, ap, subst, _∙_}
 use mathlib.Core.Logic.{_⊎_, ⊎-elim, inl, inr}
 use mathlib.Core.List.{List}
-use mathlib.Core.Bool.{Bool, true, false, _&&_}
+use mathlib.Core.Bool.{Bool, true, false}
 use Prim.Native.Nat.{ℕ, _+_, _-_, _<_, _≤_}
 use native.Mathlib.Omega.{arith}
 use lib.Dec.{ltb}
@@ -19,11 +19,6 @@ use Rattle.merge.specs.Keys.{code}
 use Rattle.merge.specs.Pairs.{admits, saves}
 use Rattle.merge.specs.Tables.{records, waiting, next, prev, statAt}
 use Rattle.merge.specs.Contracts.{many, Added, pairIs, pairKey, leftIs, leftKey, rightIs, rightKey}
-
-pub and-both : (a b : Bool) → (a && b) ≡ both a b
-unfolding both
-and-both true b = refl
-and-both false b = refl
 
 -- ---- one offer
 

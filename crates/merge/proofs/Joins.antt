@@ -11,7 +11,7 @@ use native.Mathlib.Omega.{arith}
 use lib.ListN.{length}
 use Rattle.model.specs.Lists.{Rising, more}
 use Rattle.merge.specs.Rule.{Choice, none, pair, without, cutsFrom, counted, best, pairsWith, afterJoins, laterOffers, merged}
-use Rattle.merge.proofs.Cuts.{Meet, there, meet-cases, meet-order, meet-middle, meet-three, without-hit, without-miss, rising-without, length-without, cuts-rising}
+use Rattle.merge.proofs.Cuts.{Meet, meet-cases, meet-order, meet-middle, meet-three, without-hit, without-miss, rising-without, length-without, cuts-rising}
 use Rattle.merge.proofs.Best.{Best, chosen}
 
 -- what a choice is, with its equation
@@ -127,9 +127,3 @@ pub counted-all : (n : ℕ) (c : ℕ → ℕ → ℕ) → Adds c (suc n) → (ad
 counted-all zero c ad adm sav z k = absurd (omega arith)
 counted-all (suc n) c ad adm sav z k =
     counted-kept c ad adm sav k (cutsFrom 0 (suc n)) (cuts-rising 0 (suc n) (suc (suc n)) (omega arith)) ∙ counted-seeds c ad 0 n (omega arith) ∙ ap (c 0) (zero-add (suc n))
-
--- the rows counted over all segments are the rows given, after every join: `ends i` is the number of rows of the first i seeds
-pub rows-kept : (adm : ℕ → ℕ → ℕ → Bool) (sav : ℕ → ℕ → ℕ → ℕ) (ends : ℕ → ℕ) (n : ℕ) → ((l m : ℕ) → l < m → m ≤ n → ends l ≤ ends m) → 0 < n
-    → (k : ℕ) → counted (λ l m. ends m - ends l) (afterJoins adm sav k (cutsFrom 0 n)) ≡ ends n - ends 0
-rows-kept adm sav ends n up z k =
-    counted-all n (λ l m. ends m - ends l) (λ l m r p q h. omega (arith, up l m p (omega arith), up m r q (omega arith))) adm sav z k

@@ -15,6 +15,5 @@ pub mod Begin
 pub mod Loop
 pub mod Same
 pub mod Rows
-pub mod Bytes
 pub mod Ends
 pub mod Examples

@@ -4,20 +4,20 @@ use mathlib.Core.Path.{_≡_, refl, ap, _∙_}
 use mathlib.Core.Logic.{⊎-elim}
 use mathlib.Core.Bool.{Bool, true, false}
 use Prim.Native.Nat.{ℕ, zero, suc, _+_, _*_, _-_, _<_, _≤_}
-use native.Mathlib.Nat.{le-of-eq, add-zero, add-suc}
+use native.Mathlib.Nat.{add-zero, add-suc}
 use native.Mathlib.Numerals.{add-one}
 use native.Mathlib.Omega.{arith}
 use lib.Dec.{eqb, leb}
 use borrow.Author.Tests.{leb-true, leb-false, le-leb, lt-leb}
 use Rattle.model.specs.Tests.{both, pick}
-use Rattle.model.proofs.Tests.{both-left, both-right, both-true, both-first, either, never}
+use Rattle.model.proofs.Tests.{pick-most, both-left, both-right, both-true, both-first, either, never}
 use Rattle.cost.specs.declared.Stats.{Stats}
 use Rattle.cost.specs.Statistics.{Sound, Neighbours, joined, spanOf}
-use Rattle.cost.specs.Forms.{localForm, itemsForm, localOffers}
+use Rattle.cost.specs.Forms.{localForm, itemsForm, localOffers, payload}
 use Rattle.cost.proofs.Least.{local-short, least-first}
 use Rattle.cost.proofs.Joining.{joined-sound}
 use Rattle.merge.specs.Rule.{counted, afterJoins, cutsFrom}
-use Rattle.merge.specs.Pairs.{payload, admits, saves, totalFrom, segmentOf, Seeds}
+use Rattle.merge.specs.Pairs.{admits, saves, totalFrom, segmentOf, Seeds}
 use Rattle.merge.proofs.Joins.{counted-all}
 
 pub seeds-neighbours : {f : ℕ → Stats} {n : ℕ} (i : ℕ) → Seeds f n → i + 1 < n → Neighbours (f i) (f (i + 1))
@@ -25,10 +25,8 @@ seeds-neighbours i s h = rw (add-one i) (record { left = s .sound i (omega arith
 
 -- ---- joining
 
-pick-most : (t : Bool) → pick {A = ℕ} t 1 0 ≤ 1
-unfolding pick
-pick-most true = omega arith
-pick-most false = omega arith
+one-most : (t : Bool) → pick {A = ℕ} t 1 0 ≤ 1
+one-most t = pick-most t 1 0 1 (omega arith) (omega arith)
 
 pub joined-assoc : (a b c : Stats) → 1 ≤ b .runs → joined (joined a b) c ≡ joined a (joined b c)
 unfolding joined
@@ -36,7 +34,7 @@ joined-assoc a b c h =
     let t : ℕ = pick (eqb (b .first) (suc (a .last))) 1 0 in
     let u : ℕ = pick (eqb (c .first) (suc (b .last))) 1 0 in
     let counts : a .count + b .count + c .count ≡ a .count + (b .count + c .count) = omega arith in
-    let runs : a .runs + b .runs - t + c .runs - u ≡ a .runs + (b .runs + c .runs - u) - t = omega (arith, pick-most (eqb (b .first) (suc (a .last))), pick-most (eqb (c .first) (suc (b .last)))) in
+    let runs : a .runs + b .runs - t + c .runs - u ≡ a .runs + (b .runs + c .runs - u) - t = omega (arith, one-most (eqb (b .first) (suc (a .last))), one-most (eqb (c .first) (suc (b .last)))) in
     λ i. record { first = a .first; last = c .last; count = counts i; runs = runs i }
 
 module _ {f : ℕ → Stats} {n : ℕ} (s : Seeds f n) where
@@ -101,22 +99,13 @@ pub admits-pays : (a b : Stats) → admits a b ≡ true → payload (joined a b)
 unfolding admits
 admits-pays a b e = leb-true _ _ (both-right _ _ e)
 
--- a pair that saves nothing is admitted
-pub admits-zero : (a b : Stats) → spanOf (joined a b) ≤ 65535 → payload (joined a b) ≡ 16 + payload a + payload b → admits a b ≡ true
-unfolding admits
-admits-zero a b h e = both-true _ _ (le-leb _ _ h) (le-leb _ _ (le-of-eq e))
-
--- and so a pair that is not admitted costs more joined, or is too long
+-- a pair that is not admitted costs more joined, or is too long: one that saves nothing is admitted
 pub refuses : (a b : Stats) → admits a b ≡ false → spanOf (joined a b) ≤ 65535 → 16 + payload a + payload b < payload (joined a b)
 unfolding admits
 refuses a b e h = ⊎-elim
     (λ t. never (both-true _ _ (le-leb _ _ h) t) e)
     (λ t. leb-false _ _ t)
     (either (leb (payload (joined a b)) (16 + payload a + payload b)))
-
-pub payload-most : (s : Stats) → payload s ≤ 2 * s .count
-unfolding payload localForm itemsForm
-payload-most s = least-first (itemsForm 3 false (2 * s .count) (s .count)) (localOffers s)
 
 -- a saving has 15 bits
 pub saves-small : (a b : Stats) → Neighbours a b → admits a b ≡ true → saves a b < 32768

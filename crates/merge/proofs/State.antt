@@ -9,7 +9,6 @@ use lib.ListN.{length}
 use borrow.Author.Tests.{eqb-true, eq-eqb}
 use Rattle.model.proofs.Tests.{both-left, both-right, both-true}
 use Rattle.cost.specs.declared.Stats.{Stats}
-use Rattle.cost.specs.Statistics.{joined}
 use Rattle.queue.specs.Keys.{Heap}
 use Rattle.merge.specs.Rule.{cutsFrom, afterJoins, laterOffers, merged, offers}
 use Rattle.merge.specs.Links.{Cuts}

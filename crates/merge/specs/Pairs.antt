@@ -7,15 +7,7 @@ use lib.Dec.{leb}
 use Rattle.model.specs.Tests.{both, pick}
 use Rattle.cost.specs.declared.Stats.{Stats}
 use Rattle.cost.specs.Statistics.{Sound, statsOf, joined, spanOf}
-use Rattle.cost.specs.Forms.{localForm}
-
--- the bytes of a segment: those of its cheapest local form
-unfoldable pub payload : Stats → ℕ
-payload s = localForm s .bytes
-
--- the lower of two numbers
-unfoldable pub lower : ℕ → ℕ → ℕ
-lower a b = pick {A = ℕ} (leb a b) a b
+use Rattle.cost.specs.Forms.{payload}
 
 -- a neighbouring pair is admitted if its joined L ≤ 65,535 and saving 16 + left + right − joined ≥ 0
 unfoldable pub admits : Stats → Stats → Bool

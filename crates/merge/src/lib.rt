@@ -10,7 +10,7 @@ ghost use Rattle.cost.specs.Statistics.{Sound, Neighbours};
 ghost use Rattle.queue.specs.Keys.{Heap};
 ghost use Rattle.merge.specs.Keys.{code, pairOf};
 ghost use Rattle.merge.specs.Links.{Cuts};
-ghost use Rattle.merge.specs.Pairs.{lower, payload, admits, saves, Seeds};
+ghost use Rattle.merge.specs.Pairs.{admits, saves, Seeds};
 ghost use Rattle.merge.specs.Tables.{base, records, waiting, field, next, statAt, isLive, put, putStat, linked};
 ghost use Rattle.merge.specs.Contracts.{Added, pairIs, pairKey, leftIs, leftKey, rightIs, rightKey, Left, Right, Ready, Joining, Taken, Started, Offering, Merged, offersOf};
 
@@ -42,24 +42,6 @@ fn decode(k: u64) -> Pair
     }
 }
 
-fn lower(a: u64, b: u64) -> u64
-    ensures { λ r. ⌜ r ≡ lower a b ⌝ }
-{
-    if a <= b { a } else { b }
-}
-
-// The bytes of a segment: a list, runs, the missing positions or a bitmap. Dense has no missing positions.
-fn payload(s: cost::Stats) -> u64
-    requires { ⌜ Sound s ⌝ }
-    ensures { λ r. ⌜ (r ≡ payload s) × (r ≤ 8589934592) ⌝ }
-{
-    let span = (s.last - s.first) as u64 + 1;
-    let count = s.count as u64;
-    let runs = s.runs as u64;
-    let few = lower(2 * count, 6 * runs);
-    lower(few, lower(2 * (span - count), cost::bitmap_length(span)))
-}
-
 // Whether two neighbouring segments may be joined: a saving of nothing is enough.
 fn admitted(a: cost::Stats, b: cost::Stats) -> bool
     requires { ⌜ Neighbours a b ⌝ }
@@ -69,7 +51,7 @@ fn admitted(a: cost::Stats, b: cost::Stats) -> bool
     if 65535 <= whole.last - whole.first {
         return false;
     }
-    payload(whole) <= 16 + payload(a) + payload(b)
+    cost::payload(whole) <= 16 + cost::payload(a) + cost::payload(b)
 }
 
 // What joining them saves: a directory entry and two payloads for one.
@@ -78,7 +60,7 @@ fn saving(a: cost::Stats, b: cost::Stats) -> u64
     requires { ⌜ admits a b ≡ true ⌝ }
     ensures { λ r. ⌜ (r ≡ saves a b) × (r < 32768) ⌝ }
 {
-    16 + payload(a) + payload(b) - payload(cost::join(a, b))
+    16 + cost::payload(a) + cost::payload(b) - cost::payload(cost::join(a, b))
 }
 
 fn wide(x: u32) -> usize

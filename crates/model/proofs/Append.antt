@@ -5,14 +5,14 @@ use mathlib.Core.Bool.{Bool, true, false}
 use mathlib.Core.Logic.{⊎-elim}
 use mathlib.Core.List.{List, [], _∷_, _++_}
 use Prim.Native.Nat.{ℕ, zero, suc, _+_, _-_, _<_, _≤_}
-use native.Mathlib.Nat.{zero-add, add-zero, suc-add, add-suc, add-assoc}
+use native.Mathlib.Nat.{zero-add, suc-add, add-suc, add-assoc}
 use native.Mathlib.Omega.{arith}
 use lib.ListN.{length, getD, take, drop}
 use lib.Seq.{getD-append-add}
 use Rattle.model.specs.Tests.{pick}
-use Rattle.model.specs.Lists.{Rising, none, more, below, has, placeOf, shift, lower}
+use Rattle.model.specs.Lists.{Rising, none, more, below, has, placeOf, shift}
 use Rattle.model.proofs.Tests.{order, pick-true, pick-false, same-or-not}
-use Rattle.model.proofs.Standing.{below-under, below-past, below-none, below-whole, has-here, has-later, has-outside}
+use Rattle.model.proofs.Standing.{below-under, below-past, has-here, has-later, has-outside}
 
 -- ---- append
 
@@ -51,19 +51,9 @@ getD-second xs ys k h =
     let e : k ≡ length xs + (k - length xs) = omega arith in
     ap (λ (n : ℕ). getD (xs ++ ys) n 0) e ∙ getD-append-add xs ys (k - length xs) 0
 
--- a rising list in two parts, at m: below m only the first counts, from m on the first is passed
-module _ {a m b : ℕ} {xs ys : List ℕ} (r : Rising a m xs) (s : Rising m b ys) (p : ℕ) where
-  pub place-first : p < m → placeOf (xs ++ ys) p ≡ placeOf xs p
-  unfolding placeOf
-  place-first h =
-      let e : below (xs ++ ys) p ≡ below xs p = rw (below-append, below-none s p (omega arith), add-zero) in
-      rw (e, has-left xs ys p (has-outside s p (λ w. omega (arith, w .0))))
-
-  pub below-second : m ≤ p → below (xs ++ ys) p ≡ length xs + below ys p
-  below-second h = below-append xs ys p ∙ rw (below-whole r p h)
-
-  pub has-second : m ≤ p → has (xs ++ ys) p ≡ has ys p
-  has-second h = has-right xs ys p (has-outside r p (λ w. omega (arith, w .1)))
+-- of two parts that meet at m, only the second holds positions from m on
+pub has-second : {a m : ℕ} {xs : List ℕ} (ys : List ℕ) → Rising a m xs → (p : ℕ) → m ≤ p → has (xs ++ ys) p ≡ has ys p
+has-second {xs = xs} ys r p h = has-right xs ys p (has-outside r p (λ w. omega (arith, w .1)))
 
 -- ---- shift
 
@@ -82,28 +72,6 @@ pub shift-rising : {a c : ℕ} {xs : List ℕ} (b : ℕ) → Rising a c xs → R
 unfolding shift
 shift-rising b none = none
 shift-rising {a} {c} b (more {x = x} l h r) = more {a = b + a} {b = b + c} {x = b + x} (omega arith) (omega arith) (rw (add-suc b x) at (shift-rising b r))
-
-pub lower-shift : (b : ℕ) (xs : List ℕ) → lower b (shift b xs) ≡ xs
-unfolding lower shift
-lower-shift b [] = refl
-lower-shift b (x ∷ xs) = let e : b + x - b ≡ x = omega arith in rw (e, lower-shift b xs)
-
-pub shift-lower : {a c : ℕ} {xs : List ℕ} (b : ℕ) → b ≤ a → Rising a c xs → shift b (lower b xs) ≡ xs
-unfolding lower shift
-shift-lower b h none = refl
-shift-lower b h (more {x = x} l q r) = let e : b + (x - b) ≡ x = omega arith in rw (e, shift-lower b (omega arith) r)
-
-pub length-lower : (b : ℕ) (xs : List ℕ) → length (lower b xs) ≡ length xs
-unfolding lower
-length-lower b [] = refl
-length-lower b (x ∷ xs) = ap suc (length-lower b xs)
-
-pub lower-rising : {a c : ℕ} {xs : List ℕ} (b : ℕ) → b ≤ a → Rising a c xs → Rising (a - b) (c - b) (lower b xs)
-unfolding lower
-lower-rising b h none = none
-lower-rising {a} {c} b h (more {x = x} l q r) =
-    let e : suc x - b ≡ suc (x - b) = omega arith in
-    more {a = a - b} {b = c - b} {x = x - b} (omega arith) (omega arith) (rw e at (lower-rising b (omega arith) r))
 
 pub shift-append : (b : ℕ) (xs ys : List ℕ) → shift b (xs ++ ys) ≡ shift b xs ++ shift b ys
 unfolding shift

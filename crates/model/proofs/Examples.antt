@@ -1,10 +1,9 @@
 -- The vocabulary on document 01's lists.
 -- Assumes nothing.
 use mathlib.Core.Path.{_≡_, refl}
-use mathlib.Core.Bool.{Bool, true, false}
 use mathlib.Core.List.{List, [], _∷_, _++_}
 use Prim.Native.Nat.{ℕ}
-use Rattle.model.specs.Tests.{pick, both, all, tabulate, flat}
+use Rattle.model.specs.Tests.{pick}
 use Rattle.model.specs.Lists.{below, has, rankOf, selectOf, walkOf, range, shift, complement, run, spread, onto, runsOf}
 use Rattle.model.specs.Answers.{over}
 

@@ -12,4 +12,6 @@ pub mod Sets
 pub mod Writing
 pub mod Complement
 pub mod Runs
+pub mod Positions
+pub mod Answers
 pub mod Examples

@@ -1,21 +1,21 @@
 -- A rising list made of pieces, one after the other, each inside a window of its own: runs, words of a bitmap, segments.
 -- Where a position stands and what an ordinal selects is then a question to one piece.
 -- Assumes nothing.
-use mathlib.Core.Path.{_≡_, refl, sym, ap, _∙_}
-use mathlib.Core.Bool.{Bool, true, false}
+use mathlib.Core.Path.{_≡_, refl, ap, _∙_}
+use mathlib.Core.Bool.{false}
 use mathlib.Core.Logic.{_⊎_, ⊎-elim}
-use mathlib.Core.List.{List, [], _∷_, _++_, append-assoc}
+use mathlib.Core.List.{List, _++_, append-assoc}
 use Prim.Native.Nat.{ℕ, zero, suc, _+_, _-_, _<_, _≤_}
-use native.Mathlib.Nat.{zero-add, add-zero, add-suc, le-trans}
+use native.Mathlib.Nat.{le-trans}
 use native.Mathlib.Omega.{arith}
-use lib.ListN.{length, getD, take, drop, length-append, List·getD-append}
+use lib.ListN.{length, getD, drop, length-append, List·getD-append}
 use lib.Seq.{getD-append-add, drop-append-seam}
 use Rattle.model.specs.Tests.{flat}
-use Rattle.model.specs.Lists.{Rising, none, more, below, has, placeOf}
-use Rattle.model.proofs.Tests.{order, flat-front, last-or-before}
+use Rattle.model.specs.Lists.{Rising, none, below, has}
+use Rattle.model.proofs.Tests.{flat-front, last-or-before}
 use Rattle.model.proofs.Rising.{rising-append, rising-wider}
 use Rattle.model.proofs.Standing.{below-none, below-whole, has-outside}
-use Rattle.model.proofs.Append.{below-append, has-left, has-right, getD-second}
+use Rattle.model.proofs.Append.{below-append, has-left, has-right}
 
 -- piece i lies in [lo i, hi i); the windows follow one another between a and b
 pub record Pieces (g : ℕ → List ℕ) (lo hi : ℕ → ℕ) (n a b : ℕ) : Type 0 where

@@ -1,18 +1,11 @@
--- Rising lists: their bounds, their elements by index, and where a position stands among them.
+-- Rising lists: their bounds, their parts and their elements by index.
 -- Assumes nothing.
-use mathlib.Core.Path.{_≡_, refl, sym, ap, _∙_}
-use mathlib.Core.Bool.{Bool, true, false}
-use mathlib.Core.Logic.{_⊎_, ⊎-elim, inl, inr}
 use mathlib.Core.List.{List, [], _∷_, _++_}
 use Prim.Native.Nat.{ℕ, zero, suc, _+_, _-_, _<_, _≤_}
-use native.Mathlib.Nat.{le-trans, le-of-lt}
+use native.Mathlib.Nat.{le-trans}
 use native.Mathlib.Omega.{arith}
-use lib.Dec.{ltb, eqb}
-use lib.ListN.{length, getD, take, drop, length-append}
-use borrow.Author.Tests.{lt-ltb, le-ltb, eq-eqb, ne-eqb, ltb-true, ltb-false, eqb-true, eqb-false}
-use Rattle.model.specs.Tests.{pick}
-use Rattle.model.specs.Lists.{Rising, none, more, below, has, placeOf, selectOf, rankOf}
-use Rattle.model.proofs.Tests.{either, order, pick-true, pick-false, never, same-or-not}
+use lib.ListN.{length, getD, take, drop}
+use Rattle.model.specs.Lists.{Rising, none, more}
 
 -- ---- taking apart and widening
 
@@ -33,6 +26,16 @@ pub rising-append : {a m b : ℕ} {xs ys : List ℕ} → a ≤ m → m ≤ b →
 rising-append l h none s = rising-wider l (omega arith) s
 rising-append l h (more p q r) s = more p (le-trans q h) (rising-append q h r s)
 
+pub rising-take : {a b : ℕ} {xs : List ℕ} (n : ℕ) → Rising a b xs → Rising a b (take n xs)
+rising-take zero r = none
+rising-take (suc n) none = none
+rising-take (suc n) (more l h r) = more l h (rising-take n r)
+
+pub rising-drop : {a b : ℕ} {xs : List ℕ} (n : ℕ) → Rising a b xs → Rising a b (drop n xs)
+rising-drop zero r = r
+rising-drop (suc n) none = none
+rising-drop (suc n) (more l h r) = rising-wider (omega arith) (omega arith) (rising-drop n r)
+
 -- ---- the elements by index
 
 pub rising-from : {a b : ℕ} {xs : List ℕ} → Rising a b xs → (i : ℕ) → i < length xs → a ≤ getD xs i 0
@@ -44,6 +47,12 @@ pub rising-below : {a b : ℕ} {xs : List ℕ} → Rising a b xs → (i : ℕ) �
 rising-below none i h = absurd (omega arith)
 rising-below (more p q r) zero h = q
 rising-below (more p q r) (suc i) h = rising-below r i (omega arith)
+
+-- what stands before the i-th is below it
+pub rising-before : {a b : ℕ} {xs : List ℕ} (i : ℕ) → Rising a b xs → i < length xs → Rising a (getD xs i 0) (take i xs)
+rising-before i none h = absurd (omega arith)
+rising-before zero (more l u r) h = none
+rising-before (suc i) (more l u r) h = more l (rising-from r i (omega arith)) (rising-before i r (omega arith))
 
 -- strictly: the distance of two elements is at least that of their indices
 pub rising-apart : {a b : ℕ} {xs : List ℕ} → Rising a b xs → (i j : ℕ) → i < j → j < length xs → getD xs i 0 + (j - i) ≤ getD xs j 0

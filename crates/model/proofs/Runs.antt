@@ -1,20 +1,20 @@
--- Runs: the runs of a list spread to the list, and the runs of spread runs that stand apart are those runs.
+-- Runs: the runs of a list spread to the list, the runs of spread runs that stand apart are those runs, and how many there are.
 -- Assumes nothing.
 use mathlib.Core.Path.{_≡_, refl, sym, ap, ap₂, _∙_}
 use mathlib.Core.Logic.{⊎-elim}
 use mathlib.Core.List.{List, [], _∷_, _++_, append-nil, append-assoc}
-use Prim.Native.Nat.{ℕ, zero, suc, _+_, _-_, _<_, _≤_, min}
+use Prim.Native.Nat.{ℕ, zero, suc, _+_, _-_, _<_, _≤_}
 use native.Mathlib.Nat.{le-trans}
 use native.Mathlib.Omega.{arith}
 use lib.ListN.{length, getD, length-append}
+use lib.Dec.{eqb}
 use borrow.Author.Tests.{eq-eqb, ne-eqb}
-use Rattle.model.specs.Tests.{tabulate, flat, total}
-use Rattle.model.specs.Lists.{Rising, none, more, below, has, range, Run, run, spread, onto, runsOf, Apart, stop, next}
-use Rattle.model.proofs.Tests.{pick-true, pick-false, same-or-not, strictly}
+use Rattle.model.specs.Tests.{pick, tabulate, flat, total}
+use Rattle.model.specs.Lists.{Rising, none, more, range, Run, run, spread, onto, runsOf, Apart, stop, next}
+use Rattle.model.proofs.Tests.{either, pick-true, pick-false, same-or-not, strictly}
 use Rattle.model.proofs.Sums.{total-front}
 use Rattle.model.proofs.Rising.{rising-append, rising-wider}
-use Rattle.model.proofs.Ranges.{range-rising, below-range, length-range, getD-range}
-use Rattle.model.proofs.Pieces.{Pieces, pieces-place, pieces-select}
+use Rattle.model.proofs.Ranges.{range-rising, length-range}
 
 -- ---- a position put in front
 
@@ -97,6 +97,45 @@ runsOf-spread {a} {b} (next {r = r} {rs = rs} l q e s) =
     let f = front-run (r .start) (r .size - 1) (spread rs) b t in
     ap (λ (n : ℕ). runsOf (range (r .start) n ++ spread rs)) k ∙ f ∙ ap₂ (λ (n : ℕ) (l : List Run). run (r .start) n ∷ l) (sym k) ih
 
+-- ---- how many runs a list has
+
+-- one element more in front is a run more, but where it touches the first run
+onto-count : (x y : ℕ) (rs : List Run) → getD rs 0 (run 0 0) .start ≡ y → 1 ≤ length rs → length (onto x rs) + pick (eqb y (suc x)) 1 0 ≡ suc (length rs)
+unfolding onto pick
+onto-count x y [] e h = absurd (omega arith)
+onto-count x y (r ∷ rs) e h = rw (← e) (⊎-elim (λ t. rw t (omega arith)) (λ t. rw t (omega arith)) (either (eqb (r .start) (suc x))))
+
+-- the runs of a list that is not empty start with its first element
+onto-start : (y : ℕ) (rs : List Run) → getD (onto y rs) 0 (run 0 0) .start ≡ y
+unfolding onto pick
+onto-start y [] = refl
+onto-start y (r ∷ rs) = ⊎-elim (λ e. rw e) (λ e. rw e) (either (eqb (r .start) (suc y)))
+
+onto-some : (y : ℕ) (rs : List Run) → 1 ≤ length (onto y rs)
+unfolding onto pick
+onto-some y [] = omega arith
+onto-some y (r ∷ rs) = ⊎-elim (λ e. rw e (omega arith)) (λ e. rw e (omega arith)) (either (eqb (r .start) (suc y)))
+
+pub runs-cons : (x y : ℕ) (ys : List ℕ) → length (runsOf (x ∷ y ∷ ys)) + pick (eqb y (suc x)) 1 0 ≡ suc (length (runsOf (y ∷ ys)))
+unfolding runsOf
+runs-cons x y ys = onto-count x y (onto y (runsOf ys)) (onto-start y (runsOf ys)) (onto-some y (runsOf ys))
+
+-- two lists have the runs of each, but where the second goes on from the first
+pub runs-append : (x : ℕ) (xs : List ℕ) (y : ℕ) (ys : List ℕ) → length (runsOf ((x ∷ xs) ++ y ∷ ys)) + pick (eqb y (suc (getD (x ∷ xs) (length xs) 0))) 1 0 ≡ length (runsOf (x ∷ xs)) + length (runsOf (y ∷ ys))
+unfolding runsOf onto
+runs-append x [] y ys = omega (arith, runs-cons x y ys)
+runs-append x (z ∷ xs) y ys = omega (arith, runs-cons x z (xs ++ y ∷ ys), runs-cons x z xs, runs-append z xs y ys)
+
+pub runs-some : (x : ℕ) (xs : List ℕ) → 1 ≤ length (runsOf (x ∷ xs))
+unfolding runsOf
+runs-some x xs = onto-some x (runsOf xs)
+
+pub runs-most : (xs : List ℕ) → length (runsOf xs) ≤ length xs
+unfolding runsOf onto
+runs-most [] = omega arith
+runs-most (x ∷ []) = omega arith
+runs-most (x ∷ y ∷ ys) = omega (arith, runs-cons x y ys, runs-most (y ∷ ys))
+
 -- ---- tabulated runs, as a body has them
 
 pub spread-append : (rs ss : List Run) → spread (rs ++ ss) ≡ spread rs ++ spread ss
@@ -108,19 +147,6 @@ pub spread-tabulate : (f : ℕ → Run) (n : ℕ) → spread (tabulate f n) ≡ 
 unfolding tabulate flat spread
 spread-tabulate f zero = refl
 spread-tabulate f (suc n) = spread-append (tabulate f n) (f n ∷ []) ∙ rw (spread-tabulate f n, append-nil)
-
--- place and select under spread: run i, whose window holds p or comes last before it, is asked
-module _ (f : ℕ → Run) (n a b : ℕ) (s : Pieces (λ (i : ℕ). range (f i .start) (f i .size)) (λ (i : ℕ). f i .start) (λ (i : ℕ). f i .start + f i .size) n a b) where
-  pub spread-place : (p i : ℕ) → i < n → f i .start ≤ p → ((j : ℕ) → i < j → j < n → p < f j .start)
-      → (below (spread (tabulate f n)) p ≡ length (spread (tabulate f i)) + min (p - f i .start) (f i .size)) × (has (spread (tabulate f n)) p ≡ has (range (f i .start) (f i .size)) p)
-  spread-place p i h l u =
-      let w = pieces-place n s p i h l u in
-      rw (spread-tabulate f n, spread-tabulate f i) (w .0 ∙ rw (below-range (f i .start) (f i .size) p), w .1)
-
-pub spread-select : (f : ℕ → Run) (n i k : ℕ) → i < n → k < f i .size → getD (spread (tabulate f n)) (length (spread (tabulate f i)) + k) 0 ≡ f i .start + k
-spread-select f n i k h l =
-    rw (spread-tabulate f n, spread-tabulate f i)
-    (pieces-select (λ (j : ℕ). range (f j .start) (f j .size)) n i k h (rw (length-range (f i .start) (f i .size)) l) ∙ getD-range (f i .start) (f i .size) k l)
 
 -- ---- runs by index
 

@@ -1,21 +1,18 @@
 -- Where a position stands in a list, and select and rank as each other's inverse on a rising list.
 -- Assumes nothing.
 use mathlib.Core.Path.{_≡_, refl, sym, ap, ap₂, _∙_}
-use mathlib.Core.Bool.{Bool, true, false, false≢true}
-use mathlib.Core.Logic.{_⊎_, ⊎-elim, inl, inr}
-use mathlib.Core.List.{List, [], _∷_, _++_}
-use Prim.Native.Nat.{ℕ, zero, suc, _+_, _-_, _<_, _≤_}
-use native.Mathlib.Nat.{zero-add, le-trans, suc-add}
+use mathlib.Core.Bool.{true, false, false≢true}
+use mathlib.Core.Logic.{_⊎_, ⊎-elim}
+use mathlib.Core.List.{List, [], _∷_}
+use Prim.Native.Nat.{ℕ, zero, suc, _-_, _<_, _≤_}
+use native.Mathlib.Nat.{le-trans}
 use native.Mathlib.Omega.{arith}
-use lib.Dec.{ltb, eqb}
-use lib.ListN.{length, getD, take, drop, drop-of-length-le}
+use lib.ListN.{length, getD, drop-of-length-le}
 use lib.Seq.{drop-cons}
-use borrow.Author.Tests.{lt-ltb, le-ltb, eq-eqb, ne-eqb, ltb-true, ltb-false, eqb-true, eqb-false}
-use Rattle.model.specs.Tests.{pick}
+use borrow.Author.Tests.{lt-ltb, le-ltb, eq-eqb, ne-eqb}
 use Rattle.model.specs.Lists.{Rising, none, more, below, has, placeOf, selectOf, rankOf}
-use Rattle.model.specs.declared.Place.{Place}
-use Rattle.model.proofs.Tests.{either, order, pick-true, pick-false, never, same-or-not, same-test}
-use Rattle.model.proofs.Rising.{rising-from, rising-below, rising-strict, rising-wider}
+use Rattle.model.proofs.Tests.{either, order, pick-true, pick-false, same-or-not}
+use Rattle.model.proofs.Rising.{rising-from, rising-below, rising-strict}
 
 -- ---- one step of each
 
@@ -74,10 +71,6 @@ has-outside {a} {b} {xs} r p h = ⊎-elim (λ e. absurd (h (has-inside r p e))) 
 pub place-before : {a b : ℕ} {xs : List ℕ} → Rising a b xs → (p : ℕ) → p < a → placeOf xs p ≡ record { below = 0; present = false }
 unfolding placeOf
 place-before r p h = rw (below-none r p (omega arith), has-outside r p (λ w. omega (arith, w .0)))
-
-pub place-after : {a b : ℕ} {xs : List ℕ} → Rising a b xs → (p : ℕ) → b ≤ p → placeOf xs p ≡ record { below = length xs; present = false }
-unfolding placeOf
-place-after r p h = rw (below-whole r p h, has-outside r p (λ w. omega (arith, w .1)))
 
 -- ---- place after select, select after place
 
@@ -140,10 +133,6 @@ select-none xs k h = rw (drop-of-length-le xs h)
 pub rank-is : (xs : List ℕ) (p : ℕ) → has xs p ≡ true → rankOf xs p ≡ below xs p ∷ []
 unfolding rankOf
 rank-is xs p e = pick-true _ _ e
-
-pub rank-none : (xs : List ℕ) (p : ℕ) → has xs p ≡ false → rankOf xs p ≡ []
-unfolding rankOf
-rank-none xs p e = pick-false _ _ e
 
 -- the rank of the k-th is k; what stands at the rank of p is p
 pub rank-select : {a b : ℕ} {xs : List ℕ} → Rising a b xs → (k : ℕ) → k < length xs → rankOf xs (getD xs k 0) ≡ k ∷ []

@@ -1,12 +1,13 @@
--- The front of a list and what is left of it: of two lists one after the other, of a table, of a range.
+-- The front of a list and what is left of it: of two lists one after the other, of a lent slice, of a table, of a range.
 -- Assumes nothing.
-use mathlib.Core.Path.{_≡_, sym, _∙_}
-use mathlib.Core.List.{List, [], _∷_, _++_}
+use mathlib.Core.Path.{_≡_, sym, ap, _∙_}
+use mathlib.Core.List.{List, [], _∷_, _++_, append-nil}
 use Prim.Native.Nat.{ℕ, zero, suc, _+_, _-_, min}
-use native.Mathlib.Nat.{add-zero}
+use native.Mathlib.Nat.{add-zero, le-of-eq}
 use native.Mathlib.Omega.{arith}
-use lib.ListN.{length, take, drop, length-take, length-drop}
-use lib.Seq.{ext-getD, getD-take, getD-drop, drop-drop, drop-append-seam}
+use lib.ListN.{length, take, drop, length-take, length-drop, drop-of-length-le}
+use lib.Seq.{ext-getD, getD-take, getD-drop, drop-drop, drop-append-seam, take-all}
+use borrow.Rule.Slice.PartMut.{putMid}
 use Rattle.model.specs.Tests.{tabulate}
 use Rattle.model.specs.Lists.{range, walkOf}
 use Rattle.model.proofs.Tests.{length-tabulate, getD-tabulate, tabulate-same}
@@ -21,6 +22,16 @@ take-append (suc m) (u ∷ us) vs = let e : suc m - suc (length us) ≡ m - leng
 -- what is left behind the next ones
 pub drop-past : {A : Type 0} (xs vs rest : List A) (n : ℕ) → drop n xs ≡ vs ++ rest → drop (n + length vs) xs ≡ rest
 drop-past xs vs rest n e = rw (← drop-drop (length vs) n xs, e) (drop-append-seam vs rest)
+
+-- ---- the part of a slice from a on: `xs[a..]` as it is lent, and as it comes back
+
+pub tail-is : (a : ℕ) (xs : List ℕ) → take (length xs - a) (drop a xs) ≡ drop a xs
+tail-is a xs = take-all (length xs - a) (drop a xs) (omega (arith, length-drop a xs))
+
+pub tail-put : (a : ℕ) (xs ys : List ℕ) → putMid a (length xs - a) xs ys ≡ take a xs ++ ys
+tail-put a xs ys =
+    let none : drop (length xs - a) (drop a xs) ≡ [] = drop-of-length-le (drop a xs) (le-of-eq (length-drop a xs)) in
+    ap (λ (t : List ℕ). take a xs ++ (ys ++ t)) none ∙ ap (λ (t : List ℕ). take a xs ++ t) (append-nil ys)
 
 -- ---- the walk of a table, and of a range
 

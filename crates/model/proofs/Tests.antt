@@ -11,7 +11,7 @@ use native.Mathlib.Omega.{arith}
 use lib.Dec.{ltb, eqb}
 use lib.ListN.{length, getD, length-append, List·getD-append}
 use lib.Seq.{getD-at}
-use borrow.Author.Tests.{ltb-true, ltb-false, eqb-true, eqb-false}
+use borrow.Author.Tests.{ltb-true, ltb-false, eq-eqb, eqb-true, eqb-false}
 use Rattle.model.specs.Tests.{both, pick, all, tabulate, flat}
 
 -- ---- the cases of a test, with its equation; of two numbers; of an index below n + 1
@@ -41,6 +41,10 @@ same-test true b f g = sym (f refl)
 same-test false true f g = g refl
 same-test false false f g = refl
 
+-- of two equalities that hold together too
+pub same-eqb : (a b c d : ℕ) → (a ≡ b → c ≡ d) → (c ≡ d → a ≡ b) → eqb a b ≡ eqb c d
+same-eqb a b c d f g = same-test (eqb a b) (eqb c d) (λ e. eq-eqb c d (f (eqb-true a b e))) (λ e. eq-eqb a b (g (eqb-true c d e)))
+
 -- a test that cannot pass
 pub refuse : (b : Bool) → (b ≡ true → ⊥) → false ≡ b
 refuse true h = absurd (h refl)
@@ -55,6 +59,11 @@ pick-true a b e = rw e
 pub pick-false : {A : Type 0} {t : Bool} (a b : A) → t ≡ false → pick t a b ≡ b
 unfolding pick
 pick-false a b e = rw e
+
+pub pick-most : (t : Bool) (a b m : ℕ) → a ≤ m → b ≤ m → pick t a b ≤ m
+unfolding pick
+pick-most true a b m p q = p
+pick-most false a b m p q = q
 
 -- ---- both of two tests
 
@@ -129,10 +138,6 @@ module _ {A : Type 0} (f : ℕ → A) where
       (λ q. rw q (getD-at (tabulate f n) (f n) [] d n (length-tabulate n)))
       (λ l. List·getD-append (tabulate f n) (f n ∷ []) d i (omega (arith, length-tabulate n)) ∙ getD-tabulate n i d l)
       (last-or-before h)
-
-  pub tabulate-step : (n : ℕ) → tabulate f (n + 1) ≡ tabulate f n ++ (f n ∷ [])
-  unfolding tabulate
-  tabulate-step n = rw add-one
 
 pub tabulate-same : {A : Type 0} (f g : ℕ → A) (n : ℕ) → ((i : ℕ) → i < n → f i ≡ g i) → tabulate f n ≡ tabulate g n
 unfolding tabulate

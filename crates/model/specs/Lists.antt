@@ -48,15 +48,15 @@ unfoldable pub range : ℕ → ℕ → List ℕ
 range a zero = []
 range a (suc n) = a ∷ range (suc a) n
 
--- the list counted from b
+-- positions of a part that starts at b, as positions of the whole
 unfoldable pub shift : ℕ → List ℕ → List ℕ
 shift b [] = []
 shift b (x ∷ xs) = (b + x) ∷ shift b xs
 
--- a list counted from 0 anew, where it was counted from b
-unfoldable pub lower : ℕ → List ℕ → List ℕ
-lower b [] = []
-lower b (x ∷ xs) = (x - b) ∷ lower b xs
+-- and back: the positions of rows in a coverage that starts at start
+unfoldable pub positionsOf : ℕ → List ℕ → List ℕ
+positionsOf start [] = []
+positionsOf start (r ∷ rs) = (r - start) ∷ positionsOf start rs
 
 -- the shift in 32 bits, as a walk over any bytes writes it: where nothing passes 2^32 it is the shift
 unfoldable pub moved : ℕ → List ℕ → List ℕ

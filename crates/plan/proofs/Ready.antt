@@ -6,9 +6,9 @@ use Prim.Native.Nat.{ℕ, suc, _+_, _-_, _*_, _<_, _≤_}
 use native.Mathlib.Omega.{arith}
 use lib.ListN.{length, length-append}
 use Rattle.cost.specs.declared.Form.{Form}
-use Rattle.cost.specs.Rows.{positionsOf}
+use Rattle.model.specs.Lists.{positionsOf}
 use Rattle.cost.specs.Statistics.{statsOf}
-use Rattle.cost.proofs.Positions.{length-positions}
+use Rattle.model.proofs.Positions.{length-positions}
 use Rattle.model.proofs.Rising.{rising-wider}
 use Rattle.model.specs.Answers.{accepted, over}
 use Rattle.model.proofs.Sets.{sets-front}

@@ -6,6 +6,7 @@ use Prim.Native.Nat.{ℕ}
 use native.Mathlib.Omega.{arith}
 use lib.ListN.{length, getD}
 use Rattle.model.specs.Answers.{Answer}
+use Rattle.model.proofs.Answers.{same-number, same-size}
 use Rattle.plan.specs.declared.Body.{Body}
 use Rattle.plan.specs.declared.Planned.{Planned}
 use Rattle.plan.specs.declared.Planned.the-variants.{Made, Refused}
@@ -15,12 +16,9 @@ use Rattle.plan.specs.Plans.{valuesOf, plannedOf}
 abbrev bodyFrom : List ℕ → Body
 bodyFrom vs = record { tag = getD vs 0 0; length = getD vs 1 0; segments = getD vs 2 0; offers = getD vs 3 0 }
 
-same-size : {a b : Answer} → a ≡ b → length (a .values) ≡ length (b .values)
-same-size e = ap (λ (x : Answer). length (x .values)) e
-
 pub planned-same : (a b : Planned) → plannedOf a ≡ plannedOf b → a ≡ b
 unfolding plannedOf valuesOf
 planned-same (Made a) (Made b) e = ap (λ (x : Answer). Made (bodyFrom (x .values))) e
 planned-same (Made a) (Refused k) e = absurd (omega (arith, same-size e))
 planned-same (Refused k) (Made b) e = absurd (omega (arith, same-size e))
-planned-same (Refused k) (Refused m) e = ap Refused (ap (λ (x : Answer). x .number) e)
+planned-same (Refused k) (Refused m) e = ap Refused (same-number e)

@@ -14,8 +14,8 @@ use Rattle.model.proofs.Tests.{either, pick-true, pick-false}
 use Rattle.model.proofs.Writing.{over-take}
 use Rattle.cost.specs.Statistics.{statsOf}
 use Rattle.cost.specs.Forms.{wholeForm}
-use Rattle.cost.specs.Rows.{positionsOf}
-use Rattle.cost.proofs.Positions.{length-positions}
+use Rattle.model.specs.Lists.{positionsOf}
+use Rattle.model.proofs.Positions.{length-positions}
 use Rattle.planning.specs.Refusals.{earlyNumber, endsOf}
 use Rattle.planning.specs.Planning.{plannedSegments, plannedOffers, plannedForm, plannedBody, plannedValues, answered, planNumber, planOf, planOut}
 use Rattle.planning.proofs.Dividing.{Divided, early-divided}

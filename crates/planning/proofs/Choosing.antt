@@ -1,21 +1,21 @@
 -- The choice between the segmented form and the cheapest whole form: which of the two it is, and that it is never longer than the whole form.
 -- Assumes nothing.
-use mathlib.Core.Path.{_≡_, refl, sym, _∙_}
+use mathlib.Core.Path.{_≡_, refl}
 use mathlib.Core.Bool.{true, false}
 use mathlib.Core.Logic.{_⊎_, ⊎-elim, inl, inr}
-use mathlib.Core.List.{List, _∷_}
-use Prim.Native.Nat.{ℕ, _<_, _≤_}
+use mathlib.Core.List.{List}
+use Prim.Native.Nat.{ℕ, _≤_}
 use native.Mathlib.Nat.{le-refl}
 use native.Mathlib.Omega.{arith}
 use lib.ListN.{length}
-use borrow.Author.Tests.{le-ltb, ne-eqb}
+use borrow.Author.Tests.{ne-eqb}
 use Rattle.model.specs.Tests.{pick}
-use Rattle.model.proofs.Tests.{either, order, never, pick-true, pick-false}
+use Rattle.model.proofs.Tests.{either, pick-true, pick-false}
 use Rattle.cost.specs.declared.Stats.{Stats}
 use Rattle.cost.specs.declared.Form.{Form}
 use Rattle.cost.specs.Statistics.{statsOf}
 use Rattle.cost.specs.Forms.{lex, denseForm, itemsForm, bitmapForm, wholeForm}
-use Rattle.cost.proofs.Choices.{lex-differ}
+use Rattle.cost.proofs.Least.{less-head}
 use Rattle.cost.proofs.Chosen.{Whole, dense, list32, list16, runs16, runs32, bitmap, trimmed-bitmap, missing, trimmed-missing, whole-chosen}
 use Rattle.single.specs.Layout.{singleLayout}
 use Rattle.planning.specs.Segments.{statsEach}
@@ -37,15 +37,6 @@ each-tag _ (trimmed-missing h) = omega arith
 
 pub whole-tag : (s : Stats) (span : ℕ) → wholeForm s span .tag ≤ 8
 whole-tag s span = each-tag (wholeForm s span) (whole-chosen s span)
-
--- ---- the lesser key has no greater head
-
-lesser-head : (x y : ℕ) (xs ys : List ℕ) → lex (x ∷ xs) (y ∷ ys) ≡ true → x ≤ y
-lesser-head x y xs ys e =
-    ⊎-elim
-    (λ (l : y < x). never (sym (lex-differ x y xs ys (λ q. omega arith)) ∙ e) (le-ltb x y (omega arith)))
-    (λ h. h)
-    (order y x)
 
 module _ (span : ℕ) (xs : List ℕ) (segs : List (List ℕ)) where
   abbrev whole : Form
@@ -81,7 +72,7 @@ module _ (span : ℕ) (xs : List ℕ) (segs : List (List ℕ)) where
 
   each-short : (f : Form) (body : List ℕ) → Choice f body → f .bytes ≤ whole .bytes
   unfolding choiceKey
-  each-short _ _ (in-segments e) = lesser-head _ _ _ _ e
+  each-short _ _ (in-segments e) = less-head _ _ _ _ e
   each-short _ _ (as-whole e) = le-refl (whole .bytes)
 
   pub chosen-short : formFor span xs segs .bytes ≤ wholeForm (statsOf xs) span .bytes

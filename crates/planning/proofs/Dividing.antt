@@ -13,12 +13,12 @@ use lib.Dec.{eqb}
 use lib.ListN.{length, getD, drop, length-drop}
 use lib.Seq.{length-take-le, take-all, take-add, drop-drop, getD-take, getD-drop}
 use borrow.Author.Tests.{ltb-true, leb-true, eqb-true}
-use Rattle.model.specs.Lists.{Rising}
+use Rattle.model.specs.Lists.{Rising, positionsOf}
 use Rattle.model.proofs.Rising.{rising-wider, rising-tests}
 use Rattle.model.proofs.Tests.{both-left, both-right, all-at, pick-true, pick-false, either}
 use Rattle.model.proofs.Writing.{over-take}
-use Rattle.cost.specs.Rows.{positionsOf, Covered}
-use Rattle.cost.proofs.Positions.{positions-rising}
+use Rattle.cost.specs.Rows.{Covered}
+use Rattle.model.proofs.Positions.{positions-rising}
 use Rattle.gather.specs.declared.Gatherer.{Gatherer}
 use Rattle.gather.specs.Gather.{rises, upAt, addedAll, addedAllTo, Counted}
 use Rattle.gather.specs.Seeds.{startOf, seedAt, seedsFit, windows}

@@ -5,9 +5,8 @@ use mathlib.Core.Path.{_≡_, sym, ap, _∙_}
 use mathlib.Core.List.{List}
 use Prim.Native.Nat.{ℕ, _-_}
 use native.Mathlib.Nat.{le-refl}
-use Rattle.model.specs.Lists.{shift}
-use Rattle.cost.specs.Rows.{positionsOf}
-use Rattle.cost.proofs.Positions.{positions-back}
+use Rattle.model.specs.Lists.{shift, positionsOf}
+use Rattle.model.proofs.Positions.{positions-back}
 use Rattle.planning.specs.Planning.{plannedForm, plannedBody, planNumber}
 use Rattle.planning.proofs.Accepted.{plan-divided, planned}
 

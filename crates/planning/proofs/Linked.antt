@@ -2,8 +2,8 @@
 -- Assumes nothing.
 use mathlib.Core.List.{List}
 use Prim.Native.Nat.{ℕ, _-_}
-use Rattle.cost.specs.Rows.{positionsOf}
-use Rattle.cost.proofs.Positions.{length-positions}
+use Rattle.model.specs.Lists.{positionsOf}
+use Rattle.model.proofs.Positions.{length-positions}
 use Rattle.planning.specs.Segments.{segmentsOf}
 use Rattle.planning.proofs.Dividing.{Divided}
 use Rattle.planning.proofs.Narrow.{divided-narrow, plan-parts, parts-flat, parts-each, parts-some}

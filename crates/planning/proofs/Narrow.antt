@@ -10,12 +10,11 @@ use native.Mathlib.Nat.{le-refl}
 use native.Mathlib.Omega.{arith}
 use lib.ListN.{length, getD}
 use Rattle.model.specs.Tests.{flat}
-use Rattle.model.specs.Lists.{Rising, none, more}
+use Rattle.model.specs.Lists.{Rising, none, more, positionsOf}
 use Rattle.model.proofs.Rising.{rising-high, rising-wider}
 use Rattle.cost.specs.Statistics.{statsOf, joined, spanOf}
-use Rattle.cost.specs.Rows.{positionsOf}
 use Rattle.cost.proofs.Joining.{stats-append}
-use Rattle.cost.proofs.Positions.{length-positions, getD-positions}
+use Rattle.model.proofs.Positions.{length-positions, getD-positions}
 use Rattle.gather.specs.Seeds.{startOf, seedsFit}
 use Rattle.single.specs.Layout.{firstOf, extentOf}
 use Rattle.merge.specs.Rule.{without, cutsFrom, best, afterJoins, merged}

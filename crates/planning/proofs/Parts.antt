@@ -8,9 +8,9 @@ use native.Mathlib.Omega.{arith}
 use lib.ListN.{length, getD}
 use Rattle.fields.specs.Le.{Bytes}
 use Rattle.model.specs.Tests.{pick}
-use Rattle.model.specs.Lists.{Rising, none, more, shift, lower}
+use Rattle.model.specs.Lists.{Rising, none, more, shift, positionsOf}
 use Rattle.model.proofs.Rising.{rising-room, rising-wider}
-use Rattle.model.proofs.Append.{shift-lower, length-lower}
+use Rattle.model.proofs.Positions.{length-positions, positions-back}
 use Rattle.model.proofs.Counted.{Count}
 use Rattle.forms.specs.Forms.{localAccepts, localNames}
 use Rattle.forms.proofs.Laid.{LocalFits, fits-dense, fits-list, fits-runs, fits-bitmap, fits-missing, layout-accepts, layout-names}
@@ -22,7 +22,6 @@ use Rattle.cost.specs.declared.Form.{Form}
 use Rattle.cost.specs.Statistics.{statsOf, spanOf}
 use Rattle.cost.specs.Forms.{itemsForm, bitmapForm, denseForm, localForm}
 use Rattle.cost.proofs.Joining.{reach}
-use Rattle.cost.proofs.Positions.{positions-lower}
 use Rattle.cost.proofs.Layouts.{own-rising, ownOf}
 use Rattle.cost.proofs.Chosen.{Local, dense, list, runs, missing, bitmap, local-chosen}
 use Rattle.cost.proofs.Stated.{stated-local}
@@ -49,7 +48,7 @@ module _ (seg : List ℕ) where
 
   pub payload-bytes : Bytes (payloadOf seg)
   unfolding payloadOf
-  payload-bytes = layout-bytes (tagOf seg) (extentOf seg) (lower (firstOf seg) seg)
+  payload-bytes = layout-bytes (tagOf seg) (extentOf seg) (positionsOf (firstOf seg) seg)
 
 -- ---- the rows counted from the first
 
@@ -67,52 +66,52 @@ module _ {a b : ℕ} {seg : List ℕ} (r : Rising a b seg) (some : 1 ≤ length 
   unfolding firstOf extentOf statsOf
   extent-span = omega (arith, reach r some)
 
-  own-is : lower (firstOf seg) seg ≡ ownOf seg
+  own-is : positionsOf (firstOf seg) seg ≡ ownOf seg
   unfolding firstOf
-  own-is = sym (positions-lower (getD seg 0 0) seg)
+  own-is = refl
 
-  pub own-rises : Rising 0 (extentOf seg) (lower (firstOf seg) seg)
+  pub own-rises : Rising 0 (extentOf seg) (positionsOf (firstOf seg) seg)
   own-rises = rw (extent-span, own-is) (own-rising seg r some)
 
-  pub own-back : shift (firstOf seg) (lower (firstOf seg) seg) ≡ seg
-  own-back = shift-lower (firstOf seg) (omega arith) (from-first r)
+  pub own-back : shift (firstOf seg) (positionsOf (firstOf seg) seg) ≡ seg
+  own-back = sym (positions-back (firstOf seg) (omega arith) (from-first r))
 
   pub payload-size : length (payloadOf seg) ≡ localForm (statsOf seg) .bytes
   unfolding payloadOf tagOf
   payload-size = rw (extent-span, own-is) (sym (stated-local seg r some))
 
   pub own-count : length seg ≤ 65535 → Count (extentOf seg) (length seg)
-  own-count few = record { some = some; within = omega (arith, rising-room (omega arith) own-rises, length-lower (firstOf seg) seg); most = few }
+  own-count few = record { some = some; within = omega (arith, rising-room (omega arith) own-rises, length-positions (firstOf seg) seg); most = few }
 
   -- ---- what the form takes and gives back
 
   module _ (few : length seg ≤ 65535) (narrow : extentOf seg ≤ 65535) where
     -- what every form asks
-    own-some : 1 ≤ length (lower (firstOf seg) seg)
-    own-some = rw (length-lower (firstOf seg) seg) some
+    own-some : 1 ≤ length (positionsOf (firstOf seg) seg)
+    own-some = rw (length-positions (firstOf seg) seg) some
 
-    own-few : length (lower (firstOf seg) seg) ≤ 65535
-    own-few = rw (length-lower (firstOf seg) seg) few
+    own-few : length (positionsOf (firstOf seg) seg) ≤ 65535
+    own-few = rw (length-positions (firstOf seg) seg) few
 
-    own-narrow : Rising 0 65536 (lower (firstOf seg) seg)
+    own-narrow : Rising 0 65536 (positionsOf (firstOf seg) seg)
     own-narrow = rising-wider (omega arith) (omega arith) own-rises
 
-    each-fits : (f : Form) → Local (statsOf seg) f → LocalFits (f .tag) (extentOf seg) (lower (firstOf seg) seg)
+    each-fits : (f : Form) → Local (statsOf seg) f → LocalFits (f .tag) (extentOf seg) (positionsOf (firstOf seg) seg)
     unfolding denseForm itemsForm bitmapForm statsOf
-    each-fits _ (dense e) = fits-dense own-rises own-some own-few (omega (arith, extent-span, own-count few .within, length-lower (firstOf seg) seg))
+    each-fits _ (dense e) = fits-dense own-rises own-some own-few (omega (arith, extent-span, own-count few .within, length-positions (firstOf seg) seg))
     each-fits _ list = fits-list own-rises own-some own-few own-narrow
     each-fits _ runs = fits-runs own-rises own-some own-few own-narrow
     each-fits _ missing = fits-missing own-rises own-some own-few narrow
     each-fits _ bitmap = fits-bitmap own-rises own-some own-few
 
-    own-fits : LocalFits (tagOf seg) (extentOf seg) (lower (firstOf seg) seg)
+    own-fits : LocalFits (tagOf seg) (extentOf seg) (positionsOf (firstOf seg) seg)
     unfolding tagOf
     own-fits = each-fits (localForm (statsOf seg)) (local-chosen (statsOf seg))
 
     pub payload-accepts : localAccepts (tagOf seg) (payloadOf seg) (extentOf seg) (length seg) ≡ true
     unfolding payloadOf
-    payload-accepts = rw (length-lower (firstOf seg) seg) at (layout-accepts own-fits)
+    payload-accepts = rw (length-positions (firstOf seg) seg) at (layout-accepts own-fits)
 
-    pub payload-names : localNames (tagOf seg) (payloadOf seg) (extentOf seg) (length seg) ≡ lower (firstOf seg) seg
+    pub payload-names : localNames (tagOf seg) (payloadOf seg) (extentOf seg) (length seg) ≡ positionsOf (firstOf seg) seg
     unfolding payloadOf
-    payload-names = rw (length-lower (firstOf seg) seg) at (layout-names own-fits)
+    payload-names = rw (length-positions (firstOf seg) seg) at (layout-names own-fits)

@@ -7,7 +7,7 @@ use Prim.Native.Nat.{ℕ, suc, _+_, _-_, _<_, _≤_}
 use native.Mathlib.Omega.{arith}
 use lib.ListN.{length, getD, length-append}
 use Rattle.model.specs.Tests.{pick, flat, total}
-use Rattle.model.specs.Lists.{Rising, lower}
+use Rattle.model.specs.Lists.{Rising, positionsOf}
 use Rattle.model.proofs.Tests.{both-true, all-from, flat-same, flat-length-step}
 use Rattle.model.proofs.Sums.{flat-total, total-within}
 use Rattle.model.proofs.Rising.{rising-from, rising-below, rising-strict, rising-room, rising-tests}
@@ -125,7 +125,7 @@ module _ {span : ℕ} {xs : List ℕ} {segs : List (List ℕ)} (s : Segs span xs
     unfolding partAccepts
     part-accepted i l = as-laid localAccepts i l ∙ payload-accepts (segment-rising i l) (s .each i l) (segment-few i l) (s .narrow i l)
 
-    part-named : (i : ℕ) → i < length segs → partNames (segmentedLayout segs) i ≡ lower (firstOf (segmentAt segs i)) (segmentAt segs i)
+    part-named : (i : ℕ) → i < length segs → partNames (segmentedLayout segs) i ≡ positionsOf (firstOf (segmentAt segs i)) (segmentAt segs i)
     unfolding partNames
     part-named i l = as-laid localNames i l ∙ payload-names (segment-rising i l) (s .each i l) (segment-few i l) (s .narrow i l)
 

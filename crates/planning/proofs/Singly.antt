@@ -13,11 +13,12 @@ use borrow.Author.Tests.{le-leb, eq-eqb}
 use Rattle.fields.specs.Le.{le, digits}
 use Rattle.fields.proofs.Laws.{le-digits}
 use Rattle.model.specs.Tests.{both, pick}
-use Rattle.model.specs.Lists.{Rising, none, more, has, shift, lower, runsOf}
+use Rattle.model.specs.Lists.{Rising, none, more, has, shift, runsOf, positionsOf}
 use Rattle.model.proofs.Tests.{either, both-true, pick-true, pick-false}
 use Rattle.model.proofs.Rising.{rising-low, rising-high, rising-below}
 use Rattle.model.proofs.Standing.{has-at}
-use Rattle.model.proofs.Append.{shift-zero, length-lower}
+use Rattle.model.proofs.Positions.{length-positions, getD-positions}
+use Rattle.model.proofs.Append.{shift-zero}
 use Rattle.lists.proofs.Bytes.{length-layout}
 use Rattle.forms.specs.Forms.{byTag, localAccepts, localLayout}
 use Rattle.forms.proofs.Laid.{LocalFits, layout-accepts, layout-names, fits-dense, fits-wide-list, fits-list, fits-runs, fits-wide-runs, fits-bitmap, fits-missing, runs-layout-length, wide-runs-layout-length}
@@ -28,8 +29,7 @@ use Rattle.bodies.specs.Bodies.{accepts, names}
 use Rattle.cost.specs.declared.Form.{Form}
 use Rattle.cost.specs.Statistics.{statsOf}
 use Rattle.cost.specs.Forms.{denseForm, itemsForm, bitmapForm, wholeForm}
-use Rattle.cost.proofs.Joining.{runs-most}
-use Rattle.cost.proofs.Positions.{getD-positions, positions-lower}
+use Rattle.model.proofs.Runs.{runs-most}
 use Rattle.cost.proofs.Chosen as cheapest
 use Rattle.cost.proofs.Chosen.{Whole, whole-chosen}
 use Rattle.planning.proofs.Parts.{extent-end, own-rises, own-back}
@@ -184,15 +184,15 @@ module _ {span : ℕ} {xs : List ℕ} (r : Rising 0 span xs) (some : 1 ≤ lengt
   extent = extentOf xs
 
   abbrev own : List ℕ
-  own = lower first xs
+  own = positionsOf first xs
 
   own-at : (k : ℕ) → k < length xs → getD own k 0 ≡ getD xs k 0 - first
-  own-at k h = rw (← positions-lower first xs) (getD-positions first xs k h)
+  own-at k h = getD-positions first xs k h
 
   own-ends : both (has own 0) (has own (extent - 1)) ≡ true
   unfolding firstOf
   own-ends =
-      let n : length own ≡ length xs = length-lower first xs in
+      let n : length own ≡ length xs = length-positions first xs in
       let low : getD own 0 0 ≡ 0 = own-at 0 some ∙ omega arith in
       let high : getD own (length xs - 1) 0 ≡ extent - 1 = own-at (length xs - 1) (omega arith) ∙ omega (arith, extent-end r some) in
       both-true _ _ (rw low at (has-at own 0 (omega arith))) (rw high at (has-at own (length xs - 1) (omega arith)))
@@ -204,7 +204,7 @@ module _ {span : ℕ} {xs : List ℕ} (r : Rising 0 span xs) (some : 1 ≤ lengt
       → drop offset body ≡ localLayout form extent own → (1 ≤ length own → length own ≤ 65535 → LocalFits form extent own)
       → Written tag span (view form true first extent (length xs) offset) own body
   trimmed tag form offset body seen fields room part fits =
-      let n : length own ≡ length xs = length-lower first xs in
+      let n : length own ≡ length xs = length-positions first xs in
       record { seen = seen; fields = fields; room = room; inside = own-inside; part = part; count = sym n; fits = fits (rw n some) (rw n few); ends = λ _. own-ends }
 
   write-trimmed-bitmap : Written 6 span (view 6 true first extent (length xs) 12) own (singleLayout 6 true span xs)

@@ -6,7 +6,7 @@ use Prim.Native.Nat.{ℕ, _+_, _*_}
 use lib.Dec.{eqb, leb}
 use lib.ListN.{length, getD}
 use Rattle.model.specs.Tests.{pick, flat}
-use Rattle.model.specs.Lists.{lower}
+use Rattle.model.specs.Lists.{positionsOf}
 use Rattle.cost.specs.declared.Stats.{Stats}
 use Rattle.cost.specs.declared.Form.{Form}
 use Rattle.cost.specs.Sizes.{depthOf}
@@ -55,7 +55,7 @@ unfoldable pub tagOf : List ℕ → ℕ
 tagOf rows = localForm (statsOf rows) .tag
 
 unfoldable pub payloadOf : List ℕ → List ℕ
-payloadOf rows = localLayout (tagOf rows) (extentOf rows) (lower (firstOf rows) rows)
+payloadOf rows = localLayout (tagOf rows) (extentOf rows) (positionsOf (firstOf rows) rows)
 
 unfoldable pub entriesOf : List (List ℕ) → Plan
 entriesOf segs = record {

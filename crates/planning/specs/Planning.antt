@@ -8,7 +8,7 @@ use lib.ListN.{length, replicate}
 use Rattle.model.specs.Tests.{pick, both}
 use Rattle.model.specs.Answers.{Answer, accepted, refused, over}
 use Rattle.cost.specs.declared.Form.{Form}
-use Rattle.cost.specs.Rows.{positionsOf}
+use Rattle.model.specs.Lists.{positionsOf}
 use Rattle.planning.specs.Refusals.{endsOf, earlyNumber}
 use Rattle.planning.specs.Segments.{segmentsOf, offersFor}
 use Rattle.planning.specs.Bodies.{formFor, bodyOf}

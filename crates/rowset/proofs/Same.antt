@@ -8,6 +8,7 @@ use lib.ListN.{length, getD}
 use Rattle.model.specs.Answers.{Answer}
 use Rattle.directory.specs.declared.Segment.{Segment}
 use Rattle.rowset.specs.Calls.{checkedOf, rankedOf, selectedOf, filledOf, valuesOf, entryAnswer}
+use Rattle.model.proofs.Answers.{same-number, same-size}
 use Rattle.rowset.specs.declared.Checked.{Checked}
 use Rattle.rowset.specs.declared.Checked.the-variants as checked
 use Rattle.rowset.specs.declared.Ranked.{Ranked}
@@ -18,13 +19,6 @@ use Rattle.rowset.specs.declared.Filled.{Filled}
 use Rattle.rowset.specs.declared.Filled.the-variants as filled
 use Rattle.rowset.specs.declared.Entry.{Entry}
 use Rattle.rowset.specs.declared.Entry.the-variants as entry
-
--- what two equal answers have in common
-same-number : {a b : Answer} → a ≡ b → a .number ≡ b .number
-same-number e = ap (λ (x : Answer). x .number) e
-
-same-size : {a b : Answer} → a ≡ b → length (a .values) ≡ length (b .values)
-same-size e = ap (λ (x : Answer). length (x .values)) e
 
 -- a directory entry from its values
 abbrev segmentFrom : List ℕ → Segment

@@ -1,9 +1,9 @@
 -- The search on written-out tables.
 -- Assumes nothing.
 use mathlib.Core.Path.{_≡_, refl}
-use mathlib.Core.Bool.{Bool, true, false, cond}
-use mathlib.Core.List.{List, [], _∷_}
-use Prim.Native.Nat.{ℕ, _*_}
+use mathlib.Core.Bool.{true, false}
+use mathlib.Core.List.{[], _∷_}
+use Prim.Native.Nat.{_*_}
 use Rattle.fields.specs.Le.{le}
 use Rattle.search.specs.Search.{bsearch, find, entry, allowed, upTo}
 

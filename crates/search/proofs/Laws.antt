@@ -9,7 +9,7 @@ use native.Mathlib.Omega.{arith}
 use lib.Dec.{leb}
 use borrow.Author.Tests.{le-leb, lt-leb, lt-ltb, le-ltb, leb-true, leb-false}
 use Rattle.model.proofs.Tests.{either, order, never}
-use Rattle.search.specs.Search.{mid, bsearch, find, count, Falling, Cut, allowed, upTo}
+use Rattle.search.specs.Search.{mid, bsearch, find, Falling, Cut, allowed, upTo}
 
 -- the three answers of the comparison: within key, within key + i, past both
 pub within : {v key : ℕ} (gaps : Bool) (i : ℕ) → v ≤ key → true ≡ leb v (allowed gaps key i)
@@ -164,24 +164,6 @@ module _ (t : ℕ → Bool) where
   pub find-cut : (n : ℕ) → Falling t n → Cut t n (find t 0 n)
   unfolding find
   find-cut n f = cut n f (n - 0) 0 n (omega arith) (omega arith) (omega arith) (λ i p. absurd (omega arith)) (λ i p q. absurd (omega arith))
-
-  -- a cut is the count
-  pub cut-count : (n r : ℕ) → Cut t n r → count t n ≡ r
-  unfolding count
-  cut-count zero r c = omega (arith, c .within)
-  cut-count (suc n) r c =
-      ⊎-elim
-      (λ e.
-      let here : t n ≡ true = c .below n (omega arith) in
-      let rest : count t n ≡ n = cut-count n n (record { within = omega arith; below = λ i p. c .below i (omega arith); from = λ i p q. absurd (omega arith) }) in
-      rw (here, rest) (sym e))
-      (λ l.
-      let here : t n ≡ false = c .from n (omega arith) (omega arith) in
-      rw here (cut-count n r (record { within = omega arith; below = c .below; from = λ i p q. c .from i p (omega arith) })))
-      (eq-or-lt-of-le (c .within))
-
-  pub find-count : (n : ℕ) → Falling t n → find t 0 n ≡ count t n
-  find-count n f = sym (cut-count n (find t 0 n) (find-cut n f))
 
   -- ---- the code's loop: lo and hi close in, and the answer stays
   pub record Searching (n lo hi : ℕ) : Type 0 where

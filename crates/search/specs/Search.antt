@@ -22,11 +22,6 @@ bsearch t (suc k) lo hi =
 unfoldable pub find : (ℕ → Bool) → ℕ → ℕ → ℕ
 find t lo hi = bsearch t (hi - lo) lo hi
 
--- how many i < n pass the test
-unfoldable pub count : (ℕ → Bool) → ℕ → ℕ
-count t zero = 0
-count t (suc n) = cond (t n) (suc (count t n)) (count t n)
-
 -- once the test fails it fails to the end
 abbrev pub Falling : (ℕ → Bool) → ℕ → Type 0
 Falling t n = (i j : ℕ) → i ≤ j → j < n → t j ≡ true → t i ≡ true

@@ -14,7 +14,7 @@ use Rattle.model.proofs.Tests.{same-test, both-true, both-left, both-right, bot
 use Rattle.model.proofs.Windows.{windows-level}
 use Rattle.gather.specs.Gather.{upAt, rises}
 use Rattle.gather.specs.Seeds.{startOf, seedAt, seedsFit, windows}
-use Rattle.gather.proofs.Admitted.{and-both}
+use Rattle.model.proofs.Counted.{and-both}
 use Rattle.planning.specs.Refusals.{givenFit, endsOf}
 use Rattle.seeds.specs.Ends.{endsRise, near, nearAt}
 

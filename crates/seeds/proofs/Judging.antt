@@ -13,7 +13,8 @@ use Rattle.model.proofs.Tests.{both-true, both-left, both-right, both-first, st
 use Rattle.model.proofs.Rising.{rising-tests}
 use Rattle.cost.specs.Rows.{Covered}
 use Rattle.gather.specs.Gather.{rises}
-use Rattle.gather.proofs.Admitted.{and-both, passes}
+use Rattle.model.proofs.Counted.{and-both}
+use Rattle.gather.proofs.Admitted.{passes}
 use Rattle.planning.specs.Refusals.{coverageFits, countFits, rowsFit, givenFit, endsOf, roomFits, earlyNumber}
 use Rattle.seeds.specs.declared.Early.{Early}
 use Rattle.seeds.specs.Judged.{Judged}

@@ -2,19 +2,19 @@
 -- Assumes nothing.
 use mathlib.Core.Path.{_≡_, refl, sym, ap, _∙_}
 use mathlib.Core.Logic.{⊎-elim}
-use mathlib.Core.List.{List, [], _∷_}
-use Prim.Native.Nat.{ℕ, zero, suc, _+_, _-_, _*_, _<_, _≤_}
-use native.Mathlib.Nat.{sub-zero}
+use mathlib.Core.List.{List}
+use Prim.Native.Nat.{ℕ, _+_, _-_, _*_, _<_, _≤_}
 use native.Mathlib.Numerals.{add-one}
 use native.Mathlib.Omega.{arith}
 use lib.ListN.{length, getD, take, drop, length-append, length-take, length-drop}
-use Rattle.model.specs.Lists.{Rising, none, more}
+use Rattle.model.specs.Lists.{positionsOf}
 use Rattle.model.proofs.Tests.{strictly, same-or-not, last-or-before}
-use Rattle.model.proofs.Rising.{rising-wider}
+use Rattle.model.proofs.Rising.{rising-take, rising-drop}
 use Rattle.cost.specs.declared.Stats.{Stats}
 use Rattle.cost.specs.Statistics.{statsOf}
-use Rattle.cost.specs.Rows.{positionsOf, Covered}
-use Rattle.cost.proofs.Positions.{positions-take, positions-drop, covered-few}
+use Rattle.cost.specs.Rows.{Covered}
+use Rattle.model.proofs.Positions.{positions-take, positions-drop}
+use Rattle.cost.proofs.Positions.{covered-few}
 use Rattle.gather.specs.Seeds.{startOf, windows}
 use Rattle.merge.specs.Tables.{putStat}
 use Rattle.merge.proofs.Tables.{stat-length, stat-here, stat-other}
@@ -27,16 +27,6 @@ use Rattle.seeds.proofs.Windows.{windows-each, window-only, ends-follow
 use Rattle.seeds.proofs.Judging.{Passed}
 
 -- ---- a part of rows
-
-rising-take : {a b : ℕ} {xs : List ℕ} (n : ℕ) → Rising a b xs → Rising a b (take n xs)
-rising-take zero r = none
-rising-take (suc n) none = none
-rising-take (suc n) (more l h r) = more l h (rising-take n r)
-
-rising-drop : {a b : ℕ} {xs : List ℕ} (n : ℕ) → Rising a b xs → Rising a b (drop n xs)
-rising-drop zero r = r
-rising-drop (suc n) none = none
-rising-drop (suc n) (more l h r) = rising-wider (omega arith) (omega arith) (rising-drop n r)
 
 module _ (start : ℕ) (rows : List ℕ) (a b : ℕ) (k : Ranged start rows a b) where
   part-length : length (take (b - a) (drop a rows)) ≡ b - a
@@ -52,12 +42,6 @@ module _ (start : ℕ) (rows : List ℕ) (a b : ℕ) (k : Ranged start rows a b)
 pub part-positions : (start : ℕ) (rows : List ℕ) (a b : ℕ) → positionsOf start (take (b - a) (drop a rows)) ≡ part (positionsOf start rows) a b
 unfolding part
 part-positions start rows a b = positions-take start (b - a) (drop a rows) ∙ ap (take (b - a)) (positions-drop start a rows)
-
--- ordinals are positions themselves
-pub positions-zero : (xs : List ℕ) → positionsOf 0 xs ≡ xs
-unfolding positionsOf
-positions-zero [] = refl
-positions-zero (x ∷ xs) = rw (sub-zero, positions-zero xs)
 
 -- ---- where a seed ends
 

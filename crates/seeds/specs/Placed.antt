@@ -6,7 +6,8 @@ use mathlib.Core.List.{List}
 use Prim.Native.Nat.{ℕ, suc, _<_, _≤_}
 use lib.ListN.{length}
 use Rattle.cost.specs.Statistics.{statsOf}
-use Rattle.cost.specs.Rows.{positionsOf, Covered}
+use Rattle.model.specs.Lists.{positionsOf}
+use Rattle.cost.specs.Rows.{Covered}
 use Rattle.gather.specs.Seeds.{startOf}
 use Rattle.merge.specs.Tables.{base, statAt}
 use Rattle.planning.specs.Refusals.{givenFit, endsOf}

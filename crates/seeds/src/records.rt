@@ -4,7 +4,7 @@ ghost use mathlib.Core.List.{[]};
 ghost use Prim.Native.Nat.{_<_};
 ghost use lib.ListN.{length, getD};
 ghost use Rattle.cost.specs.Statistics.{statsOf};
-ghost use Rattle.cost.specs.Rows.{positionsOf};
+ghost use Rattle.model.specs.Lists.{positionsOf};
 ghost use Rattle.planning.specs.Refusals.{endsOf};
 ghost use Rattle.planning.specs.Segments.{part};
 ghost use Rattle.seeds.specs.Ends.{Window};

@@ -1,17 +1,17 @@
 -- What the code has in hand of a segment: its entry, and the part of the body that the entry names.
 -- Assumes nothing.
-use mathlib.Core.Path.{_≡_, refl, sym, ap, _∙_}
+use mathlib.Core.Path.{_≡_, sym, _∙_}
 use mathlib.Core.Bool.{Bool, true, false, _&&_}
 use mathlib.Core.List.{List}
 use Prim.Native.Nat.{ℕ, _+_, _-_, _*_, _<_, _≤_}
 use native.Mathlib.Omega.{arith}
-use lib.ListN.{length, take, drop}
-use Rattle.model.specs.Tests.{both, all}
+use lib.ListN.{length}
+use Rattle.model.specs.Tests.{all}
 use Rattle.model.proofs.Tests.{both-first, all-step}
 use Rattle.model.proofs.Counted.{both-pass, and-both}
-use Rattle.directory.specs.Directory.{statedSegments, startAt, tagAt, spanAt, countAt, offsetAt, lengthAt, entryOf, partOf, directoryAccepts}
+use Rattle.directory.specs.Directory.{statedSegments, startAt, offsetAt, lengthAt, entryOf, partOf, directoryAccepts}
 use Rattle.directory.specs.declared.Segment.{Segment}
-use Rattle.directory.proofs.Parts.{Directory, accepts-directory}
+use Rattle.directory.proofs.Parts.{accepts-directory}
 use Rattle.directory.proofs.Facts.{payload-inside, Holds}
 use Rattle.forms.specs.Forms.{localAccepts}
 use Rattle.segmented.specs.Segmented.{partAccepts, segmentedAccepts, partBy}

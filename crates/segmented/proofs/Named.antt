@@ -1,17 +1,16 @@
 -- What an accepted segmented body names, and that its readers answer that list.
 -- Assumes nothing.
-use mathlib.Core.Path.{_≡_, refl, sym, ap, _∙_}
-use mathlib.Core.Bool.{Bool, true, false}
+use mathlib.Core.Path.{_≡_, sym, _∙_}
+use mathlib.Core.Bool.{true, false}
 use mathlib.Core.List.{List}
-use Prim.Native.Nat.{ℕ, _+_, _-_, _*_, _%_, _<_, _≤_}
+use Prim.Native.Nat.{ℕ, _+_, _-_, _<_, _≤_}
 use native.Mathlib.Nat.{mod-eq-of-lt}
 use native.Mathlib.Omega.{arith}
 use lib.ListN.{length, getD, take, drop, length-drop}
 use lib.Seq.{length-take-le}
 use Rattle.fields.specs.Le.{Bytes}
 use Rattle.fields.proofs.Laws.{bytes-tail, bytes-front}
-use Rattle.model.specs.Tests.{both, all}
-use Rattle.model.specs.Lists.{Rising, below, has, placeOf, shift, walkOf, moved}
+use Rattle.model.specs.Lists.{Rising, below, placeOf, walkOf, moved}
 use Rattle.model.specs.declared.Place.{Place}
 use Rattle.model.proofs.Tests.{both-left, both-right, all-at}
 use Rattle.model.proofs.Standing.{below-most}
@@ -19,9 +18,9 @@ use Rattle.model.proofs.Rising.{rising-below}
 use Rattle.directory.specs.Directory.{statedSegments, statedCount, startsTo, ordinalsTo, startAt, ordinalAt, tagAt, spanAt, countAt, offsetAt, lengthAt, entryOf, partOf, directoryAccepts, namesOf}
 use Rattle.directory.specs.declared.Segment.{Segment}
 use Rattle.directory.proofs.Parts.{Directory, accepts-directory}
-use Rattle.directory.proofs.Facts.{payload-inside, payload-length, no-wrap, Holds}
+use Rattle.directory.proofs.Facts.{payload-length, no-wrap, Holds}
 use Rattle.directory.proofs.Names.{Named, Placed, names-rising, names-length, place-none, place-in, select-in}
-use Rattle.forms.specs.Forms.{localAccepts, localNames, localSized, localPlace, localSelect, localWalk}
+use Rattle.forms.specs.Forms.{localSized}
 use Rattle.forms.proofs.Laws.{local-sized, local-rising, local-length, local-place, local-select, local-walk}
 use Rattle.segmented.specs.Segmented.{partAccepts, partNames, segmentedAccepts, segmentedNames, partBy, PartReadable, countedFrom, placeIn, selectIn, walkIn}
 use Rattle.segmented.proofs.Laws.{cut-part, part-inside}

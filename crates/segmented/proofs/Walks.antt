@@ -3,20 +3,19 @@
 use mathlib.Core.Path.{_≡_, refl, sym, ap, _∙_}
 use mathlib.Core.Bool.{true}
 use native.Mathlib.Numerals.{add-one}
-use mathlib.Core.List.{List, [], _∷_, _++_, append-assoc, append-nil}
-use Prim.Native.Nat.{ℕ, suc, _+_, _-_, _*_, _<_, _≤_, min}
+use mathlib.Core.List.{List, [], _++_, append-assoc}
+use Prim.Native.Nat.{ℕ, _+_, _-_, _<_, _≤_, min}
 use native.Mathlib.Omega.{arith}
-use native.Mathlib.Nat.{le-of-eq}
 use lib.ListN.{length, take, drop, length-append, length-take, length-drop, drop-of-length-le}
-use lib.Seq.{take-all, drop-drop, take-nil}
+use lib.Seq.{drop-drop, take-nil}
 use borrow.Rule.Slice.PartMut.{midOf, putMid}
 use Rattle.model.specs.Lists.{walkOf, moved}
 use Rattle.model.specs.Answers.{over, Walked}
 use Rattle.model.proofs.Writing.{length-moved, over-none, over-length, over-take, over-drop}
-use Rattle.directory.specs.Directory.{statedSegments, statedCount, startAt, countAt, ordinalAt, rowsBefore, namesOf, entryOf}
+use Rattle.directory.specs.Directory.{statedSegments, statedCount, startAt, countAt, ordinalAt, rowsBefore, entryOf}
 use Rattle.directory.specs.declared.Segment.{Segment}
-use Rattle.directory.proofs.Parts.{Directory}
 use Rattle.directory.proofs.Facts.{Holds}
+use Rattle.model.proofs.Taking.{tail-is, tail-put}
 use Rattle.directory.proofs.Walks.{Walking, walking-next, walking-end, walking-full}
 use Rattle.fields.specs.Le.{Bytes}
 use Rattle.segmented.specs.Segmented.{partNames, segmentedNames, segmentedAccepts, WalkedAt}
@@ -32,19 +31,14 @@ pub record Going (xs : List ℕ) (k : ℕ) (before out : List ℕ) (i from at : 
 
 -- ---- a part of the lent slice that came back
 
-tail : (at : ℕ) (xs : List ℕ) → midOf at (length xs - at) xs ≡ drop at xs
-tail at xs = take-all _ _ (le-of-eq (length-drop at xs))
-
 back : {ys : List ℕ} (W : List ℕ) (at : ℕ) (xs : List ℕ) → ys ≡ over W (midOf at (length xs - at) xs) → putMid at (length xs - at) xs ys ≡ take at xs ++ over W (drop at xs)
-back {ys} W at xs e =
-    let none : drop (length xs - at) (drop at xs) ≡ [] = drop-of-length-le (drop at xs) (le-of-eq (length-drop at xs)) in
-    ap (λ (t : List ℕ). take at xs ++ (ys ++ t)) none ∙ rw append-nil (ap (λ (l : List ℕ). take at xs ++ l) (e ∙ rw (tail at xs)))
+back {ys} W at xs e = tail-put at xs ys ∙ ap (λ (l : List ℕ). take at xs ++ l) (e ∙ rw (tail-is at xs))
 
 -- a walk into the part, whose rows go by the room that it has, is a walk behind the first at
 pub walked-back : {n : ℕ} (rows : ℕ → List ℕ) (at : ℕ) (xs ys : List ℕ)
     → Walked (rows (length (midOf at (length xs - at) xs))) (midOf at (length xs - at) xs) ys n → WalkedAt (rows (length xs - at)) at xs (putMid at (length xs - at) xs ys) n
 walked-back rows at xs ys w =
-    let m : length (midOf at (length xs - at) xs) ≡ length xs - at = ap length (tail at xs) ∙ length-drop at xs in
+    let m : length (midOf at (length xs - at) xs) ≡ length xs - at = ap length (tail-is at xs) ∙ length-drop at xs in
     record { written = back (rows (length xs - at)) at xs (rw m at (w .written)); number = rw m at (w .number) }
 
 -- ---- the loop

@@ -13,11 +13,12 @@ use borrow.Author.Tests.{eqb-true, eqb-false, leb-true, leb-false}
 use Rattle.fields.specs.Le.{le, digits, Bytes}
 use Rattle.fields.proofs.Laws.{next-field, bytes-tail}
 use Rattle.model.specs.Tests.{both, pick}
-use Rattle.model.specs.Lists.{Rising, below, has, shift, lower, runsOf}
+use Rattle.model.specs.Lists.{Rising, below, has, shift, runsOf, positionsOf}
 use Rattle.model.proofs.Tests.{either, both-left, both-right, pick-true, pick-false}
 use Rattle.model.proofs.Rising.{rising-below, rising-strict}
 use Rattle.model.proofs.Standing.{below-none, has-index, has-inside}
-use Rattle.model.proofs.Append.{length-shift, getD-shift, lower-shift, shift-zero}
+use Rattle.model.proofs.Positions.{positions-shift}
+use Rattle.model.proofs.Append.{length-shift, getD-shift, shift-zero}
 use Rattle.forms.specs.Forms.{byTag, localAccepts, localLayout}
 use Rattle.forms.proofs.Laws.{local-layout}
 use Rattle.forms.proofs.Laid.{runs-layout-length, wide-runs-layout-length}
@@ -156,10 +157,10 @@ module _ (span : ℕ) (xs : List ℕ) where
 
     -- what stands behind the header
     trimmed-local : (form offset : ℕ) → v .form ≡ form → v .offset ≡ offset
-        → localLayout form (extentOf (shift (v .base) (namedIn v xs))) (lower (firstOf (shift (v .base) (namedIn v xs))) (shift (v .base) (namedIn v xs))) ≡ drop offset xs
+        → localLayout form (extentOf (shift (v .base) (namedIn v xs))) (positionsOf (firstOf (shift (v .base) (namedIn v xs))) (shift (v .base) (namedIn v xs))) ≡ drop offset xs
     trimmed-local form offset f o =
-        ap₂ (λ (e g : ℕ). localLayout form e (lower g (shift (v .base) (namedIn v xs)))) extent first-row
-        ∙ ap₂ (λ (t : ℕ) (rows : List ℕ). localLayout t (v .span) rows) (sym f) (lower-shift (v .base) (namedIn v xs))
+        ap₂ (λ (e g : ℕ). localLayout form e (positionsOf g (shift (v .base) (namedIn v xs)))) extent first-row
+        ∙ ap₂ (λ (t : ℕ) (rows : List ℕ). localLayout t (v .span) rows) (sym f) (positions-shift (v .base) (namedIn v xs))
         ∙ sym (part-laid v span xs p bytes o)
 
     trimmed-bitmap : v .form ≡ 6 → v .offset ≡ 12 → v .base ≡ le 4 xs 4 → v .span ≡ le 4 xs 8 → v .count ≡ le 2 xs 0 → le 2 xs 2 ≡ 1 → xs ≡ trimmedLayout 6 (shift (v .base) (namedIn v xs))
@@ -169,7 +170,7 @@ module _ (span : ℕ) (xs : List ℕ) where
         let n : length rows ≡ le 2 xs 0 = whole-length v span xs p bytes ∙ c in
         let g : firstOf rows ≡ le 4 xs 4 = first-row ∙ b in
         let e : extentOf rows ≡ le 4 xs 8 = extent ∙ s in
-        let rest : localLayout 6 (extentOf rows) (lower (firstOf rows) rows) ≡ drop 12 xs = trimmed-local 6 12 f o in
+        let rest : localLayout 6 (extentOf rows) (positionsOf (firstOf rows) rows) ≡ drop 12 xs = trimmed-local 6 12 f o in
         rw (rest, n, ← flag, g, e) (bitmap-fields xs bytes (omega (arith, p .room)))
 
     trimmed-missing : v .form ≡ 7 → v .offset ≡ 8 → v .base ≡ le 4 xs 0 → v .span ≡ le 2 xs 4 → v .count ≡ le 2 xs 6 → xs ≡ trimmedLayout 8 (shift (v .base) (namedIn v xs))
@@ -179,7 +180,7 @@ module _ (span : ℕ) (xs : List ℕ) where
         let n : length rows ≡ le 2 xs 6 = whole-length v span xs p bytes ∙ c in
         let g : firstOf rows ≡ le 4 xs 0 = first-row ∙ b in
         let e : extentOf rows ≡ le 2 xs 4 = extent ∙ s in
-        let rest : localLayout 7 (extentOf rows) (lower (firstOf rows) rows) ≡ drop 8 xs = trimmed-local 7 8 f o in
+        let rest : localLayout 7 (extentOf rows) (positionsOf (firstOf rows) rows) ≡ drop 8 xs = trimmed-local 7 8 f o in
         rw (rest, n, g, e) (missing-fields xs bytes (omega (arith, p .room)))
 
   laid-trimmed-missing : Laid span xs 8

@@ -6,14 +6,14 @@ use mathlib.Core.Logic.{_⊎_, ⊎-elim, inl, inr}
 use mathlib.Core.List.{List}
 use Prim.Native.Nat.{ℕ, zero, suc, _+_, _-_, _<_, _≤_}
 use native.Mathlib.Omega.{arith}
-use lib.Dec.{eqb, leb, ltb}
+use lib.Dec.{eqb, leb}
 use lib.ListN.{length, getD, take, drop, length-drop}
-use lib.Seq.{take-all}
-use borrow.Author.Tests.{le-leb, lt-leb, eq-eqb, ne-eqb, eqb-true, eqb-false, lt-ltb, le-ltb}
+use borrow.Author.Tests.{le-leb, lt-leb, ne-eqb, le-ltb}
 use Rattle.model.specs.Tests.{both, pick}
 use Rattle.model.specs.Lists.{has, placeOf}
 use Rattle.model.specs.declared.Place.{Place}
-use Rattle.model.proofs.Tests.{either, same-or-not, order, both-first, both-second, both-true, pick-true, pick-false}
+use Rattle.model.proofs.Tests.{either, both-first, both-second, pick-true, pick-false}
+use Rattle.model.proofs.Taking.{tail-is}
 use Rattle.model.proofs.Counted.{both-pass}
 use Rattle.forms.specs.Forms.{localAccepts, localNames, localSized}
 use Rattle.single.specs.Single.{headerOf, view, bitmapView, trimmedMissingView, viewOf, fieldsOk, namedIn, endsOk, viewAccepts, singleAccepts, Readable}
@@ -24,11 +24,7 @@ pub present-is : {r : Place} (xs : List ℕ) (p : ℕ) → r ≡ placeOf xs p �
 unfolding placeOf
 present-is xs p e = ap (λ (q : Place). q .present) e
 
--- the part of a slice from n to its end
-pub tail-is : (n : ℕ) (xs : List ℕ) → take (length xs - n) (drop n xs) ≡ drop n xs
-tail-is n xs = take-all (length xs - n) (drop n xs) (omega (arith, length-drop n xs))
-
--- the same part has the length that its readers want
+-- the part of a body that a form is read from has the length that its readers want
 pub lent-sized : (v : View) (xs : List ℕ) → Readable v xs → localSized (v .form) (length (take (length xs - v .offset) (drop (v .offset) xs))) (v .span) (v .count) ≡ true
 lent-sized v xs r = rw (tail-is (v .offset) xs, length-drop (v .offset) xs) (r .sized)
 

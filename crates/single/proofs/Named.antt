@@ -1,28 +1,26 @@
 -- What an accepted body with one local form names, and that its readers answer that list.
 -- Assumes nothing.
-use mathlib.Core.Path.{_≡_, refl, sym, ap, _∙_}
-use mathlib.Core.Bool.{Bool, true, false}
-use mathlib.Core.Logic.{_⊎_, ⊎-elim, inl, inr}
+use mathlib.Core.Path.{_≡_, sym, _∙_}
+use mathlib.Core.Bool.{true}
+use mathlib.Core.Logic.{_⊎_, ⊎-elim}
 use mathlib.Core.List.{List}
-use Prim.Native.Nat.{ℕ, _+_, _-_, _%_, _<_, _≤_}
+use Prim.Native.Nat.{ℕ, _+_, _-_, _<_, _≤_}
 use native.Mathlib.Nat.{mod-eq-of-lt}
 use native.Mathlib.Omega.{arith}
-use lib.ListN.{length, getD, drop, length-drop}
+use lib.ListN.{length, getD, length-drop}
 use borrow.Author.Tests.{leb-true, lt-ltb, le-ltb}
 use Rattle.fields.specs.Le.{Bytes}
 use Rattle.fields.proofs.Laws.{bytes-tail}
-use Rattle.model.specs.Tests.{both, pick}
-use Rattle.model.specs.Lists.{Rising, has, placeOf, shift, walkOf, moved, counted}
-use Rattle.model.specs.declared.Place.{Place}
+use Rattle.model.specs.Lists.{Rising, placeOf, shift, walkOf}
 use Rattle.model.proofs.Tests.{order, both-left, both-right, pick-true, pick-false}
-use Rattle.model.proofs.Rising.{rising-wider, rising-below}
+use Rattle.model.proofs.Rising.{rising-below}
 use Rattle.model.proofs.Standing.{place-before}
 use Rattle.model.proofs.Append.{place-shift, shift-rising, length-shift, getD-shift}
 use Rattle.model.proofs.Writing.{moved-walk}
 use Rattle.model.proofs.Counted.{Count, counted-count}
-use Rattle.forms.specs.Forms.{localAccepts, localNames, localSized, localPlace, localSelect, localWalk}
+use Rattle.forms.specs.Forms.{localAccepts, localPlace}
 use Rattle.forms.proofs.Laws.{local-sized, local-counted, local-rising, local-length, local-place, local-select, local-walk}
-use Rattle.single.specs.Single.{headerOf, viewOf, namedIn, partIn, endsOk, viewAccepts, singleAccepts, singleNames, Readable, viewPlace, viewSelect, viewWalk}
+use Rattle.single.specs.Single.{headerOf, viewOf, namedIn, partIn, endsOk, viewAccepts, singleAccepts, Readable, viewPlace, viewSelect, viewWalk}
 use Rattle.single.specs.declared.View.{View}
 use Rattle.single.proofs.Laws.{starts}
 

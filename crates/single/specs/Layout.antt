@@ -1,13 +1,13 @@
 -- The bytes of a body of tags 1 to 8, from the rows: the header that document 01 gives each tag, and the local layout.
 -- Assumes nothing.
-use mathlib.Core.Bool.{Bool, true, false}
+use mathlib.Core.Bool.{Bool}
 use mathlib.Core.List.{List, _++_}
 use Prim.Native.Nat.{ℕ, suc, _+_, _-_}
 use lib.Dec.{eqb}
 use lib.ListN.{length, getD}
 use Rattle.fields.specs.Le.{digits}
 use Rattle.model.specs.Tests.{pick}
-use Rattle.model.specs.Lists.{runsOf, lower}
+use Rattle.model.specs.Lists.{runsOf, positionsOf}
 use Rattle.forms.specs.Forms.{localLayout}
 
 -- the first row, and how many positions there are from the first to the last
@@ -30,8 +30,8 @@ plainLayout tag span rows =
 unfoldable pub trimmedLayout : ℕ → List ℕ → List ℕ
 trimmedLayout tag rows =
     pick (eqb tag 6)
-    (digits 2 (length rows) ++ digits 2 1 ++ digits 4 (firstOf rows) ++ digits 4 (extentOf rows) ++ localLayout 6 (extentOf rows) (lower (firstOf rows) rows))
-    (digits 4 (firstOf rows) ++ digits 2 (extentOf rows) ++ digits 2 (length rows) ++ localLayout 7 (extentOf rows) (lower (firstOf rows) rows))
+    (digits 2 (length rows) ++ digits 2 1 ++ digits 4 (firstOf rows) ++ digits 4 (extentOf rows) ++ localLayout 6 (extentOf rows) (positionsOf (firstOf rows) rows))
+    (digits 4 (firstOf rows) ++ digits 2 (extentOf rows) ++ digits 2 (length rows) ++ localLayout 7 (extentOf rows) (positionsOf (firstOf rows) rows))
 
 unfoldable pub singleLayout : ℕ → Bool → ℕ → List ℕ → List ℕ
 singleLayout tag trimmed span rows = pick trimmed (trimmedLayout tag rows) (plainLayout tag span rows)

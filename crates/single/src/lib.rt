@@ -3,12 +3,12 @@ use model::Place;
 ghost use mathlib.Core.Path.{_≡_};
 ghost use mathlib.Core.Bool.{true, false};
 ghost use Prim.Native.Nat.{_+_, _-_, _≤_, _<_};
-ghost use lib.ListN.{length, drop};
+ghost use lib.ListN.{length};
 ghost use Rattle.model.specs.Tests.{both};
 ghost use Rattle.model.specs.Lists.{has};
 ghost use Rattle.model.specs.Answers.{Walked};
 ghost use Rattle.forms.specs.Forms.{localAccepts, localNames};
-ghost use Rattle.single.specs.Single.{fit, headerOf, view, bitmapView, trimmedMissingView, viewOf, fieldsOk, partIn, namedIn, endsOk, viewAccepts, singleAccepts, Readable, viewPlace, viewSelect, viewWalk};
+ghost use Rattle.single.specs.Single.{fit, headerOf, view, bitmapView, trimmedMissingView, viewOf, fieldsOk, viewAccepts, singleAccepts, Readable, viewPlace, viewSelect, viewWalk};
 
 // Where a body keeps its parts: the local form, whether it is trimmed, its base, span and count, and where its bytes start.
 pub struct View {

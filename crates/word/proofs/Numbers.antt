@@ -5,7 +5,7 @@ use mathlib.Core.Path.{_≡_, refl, sym, ap, _∙_, subst}
 use mathlib.Core.Logic.{⊎-elim}
 use mathlib.Core.List.{List, [], _∷_, _++_}
 use Prim.Native.Nat.{ℕ, zero, suc, _+_, _-_, _*_, _/_, _%_, _^_, _<_, _≤_}
-use native.Mathlib.Nat.{pow-suc, mod-one, mod-eq-of-lt, eq-or-lt-of-le, le-refl, one-mul, div-lt-iff-lt-mul, div-eq-of-lt}
+use native.Mathlib.Nat.{pow-suc, mod-one, eq-or-lt-of-le, le-refl, one-mul, div-lt-iff-lt-mul, div-eq-of-lt}
 use native.Mathlib.Omega.{arith}
 use lib.Dec.{ltb, eqb}
 use lib.Pow.{pow-pos}
@@ -40,11 +40,6 @@ pub bits-num : (k p w : ℕ) → numFrom p (bitsFrom k p w) ≡ w % 2 ^ k
 unfolding bitsFrom numFrom
 bits-num zero p w = sym (mod-one w)
 bits-num (suc k) p w = num-named (w % 2) (omega arith) (bits-rising k (suc p) (w / 2)) ∙ rw (bits-num k (suc p) (w / 2)) (sym (mod-suc k w))
-
--- two numbers of k digits that name the same places are equal
-pub bits-same : (k p v w : ℕ) → v < 2 ^ k → w < 2 ^ k → bitsFrom k p v ≡ bitsFrom k p w → v ≡ w
-bits-same k p v w hv hw e =
-    sym (mod-eq-of-lt hv) ∙ sym (bits-num k p v) ∙ ap (numFrom p) e ∙ bits-num k p w ∙ mod-eq-of-lt hw
 
 -- ---- from a list to its number and back
 

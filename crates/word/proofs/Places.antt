@@ -1,7 +1,6 @@
 -- Where a place stands in the list of set places: is it one, and how many are below it.
 -- Assumes nothing.
 use mathlib.Core.Path.{_≡_, refl, _∙_}
-use mathlib.Core.Bool.{false}
 use mathlib.Core.List.{List}
 use Prim.Native.Nat.{ℕ, zero, suc, _+_, _-_, _/_, _%_, _^_, _≤_, _<_}
 use native.Mathlib.Nat.{zero-add}
@@ -24,9 +23,6 @@ below-bits n p w h =
     rw (bits-cut n p 0 w, zero-add, below-append)
     (omega (arith, below-whole (rising-places p w) p (omega arith), below-none (bits-rising (n - p) p (w / 2 ^ p)) p (omega arith)))
 
-pub below-bits-all : (n p w : ℕ) → n ≤ p → below (bitsFrom n 0 w) p ≡ length (bitsFrom n 0 w)
-below-bits-all n p w h = below-whole (rising-places n w) p h
-
 has-named : {p b : ℕ} {l : List ℕ} (d : ℕ) → d < 2 → Rising (suc p) b l → has (named d p l) p ≡ eqb d 1
 unfolding named
 has-named {p} zero h r = has-outside r p (λ w. omega (arith, w .0))
@@ -40,11 +36,8 @@ has-bits n p w h =
     let le : p ≤ n = omega arith in
     let e : n - p ≡ suc (n - p - 1) = omega arith in
     let x = w / 2 ^ p in
-    rw (bits-cut n p 0 w, zero-add) (has-second (rising-places p w) (bits-rising (n - p) p x) p (omega arith)
+    rw (bits-cut n p 0 w, zero-add) (has-second _ (rising-places p w) p (omega arith)
     ∙ rw e (has-named (x % 2) (omega arith) (bits-rising (n - p - 1) (suc p) (x / 2))))
-
-pub has-bits-past : (n p w : ℕ) → n ≤ p → has (bitsFrom n 0 w) p ≡ false
-has-bits-past n p w h = has-outside (rising-places n w) p (λ i. omega (arith, i .1))
 
 -- a digit of the low part of a number is a digit of the number
 pub digit-mod : (j k w : ℕ) → w % 2 ^ (j + suc k) / 2 ^ k % 2 ≡ w / 2 ^ k % 2

@@ -8,7 +8,7 @@ use borrow.Author.Needs.{needs}
 use lib.ListN.{length}
 use Rattle.model.proofs.Rising.{rising-wider}
 use Rattle.bitmap.specs.Body.{wordsOf}
-use Rattle.cost.specs.Rows.{positionsOf}
+use Rattle.model.specs.Lists.{positionsOf}
 use Rattle.emit.proofs.Passing.{positions-below}
 use Rattle.emit.proofs.Wording.{Mapping, mapping-start, mapping-length, mapping-room, mapping-next, mapping-end, length-counted}
 use Rattle.emit.proofs.bitmap_rows.Statement.{statement}

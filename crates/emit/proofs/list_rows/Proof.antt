@@ -5,8 +5,8 @@ use native.Mathlib.Omega.{arith}
 use borrow.Author.Needs.{needs}
 use lib.ListN.{length}
 use Rattle.fields.specs.Le.{widthOf}
-use Rattle.cost.specs.Rows.{positionsOf}
-use Rattle.cost.proofs.Positions.{length-positions}
+use Rattle.model.specs.Lists.{positionsOf}
+use Rattle.model.proofs.Positions.{length-positions}
 use Rattle.emit.proofs.Emitting.{emitting-length}
 use Rattle.emit.proofs.Pieces.{Items, items-start, items-room, items-next, items-end}
 use Rattle.emit.proofs.Passing.{row-inside, row-first}

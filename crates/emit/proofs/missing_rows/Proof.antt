@@ -6,7 +6,7 @@ use native.Mathlib.Omega.{arith}
 use borrow.Author.Needs.{needs}
 use lib.ListN.{length}
 use Rattle.fields.specs.Le.{widthOf}
-use Rattle.cost.specs.Rows.{positionsOf}
+use Rattle.model.specs.Lists.{positionsOf}
 use Rattle.emit.proofs.Emitting.{written-length, emitting-length}
 use Rattle.emit.proofs.Forms.{missingForm}
 use Rattle.emit.proofs.Rowing.{Rowing, Ahead}

@@ -1,3 +1,5 @@
+-- `fields::put16` meets its contract: the two bytes of the number, lowest first.
+-- Assumes nothing.
 use native.Mathlib.Omega.{arith}
 use native.Mathlib.Numerals.{add-one}
 use lib.ListN.{length-set}

@@ -1,3 +1,5 @@
+-- `fields::put64` meets its contract: a wide store is two narrower ones.
+-- Assumes nothing.
 use Rattle.fields.proofs.Laws.{put-split}
 use borrow.Author.Needs.{needs}
 use Rattle.fields.proofs.put64.Statement.{statement}

@@ -1,3 +1,5 @@
+-- `fields::read16` meets its contract: two bytes, the second 256 times.
+-- Assumes nothing.
 use mathlib.Core.Path.{_∙_}
 use native.Mathlib.Nat.{add-zero}
 use native.Mathlib.Numerals.{add-one}

@@ -1,3 +1,5 @@
+-- `fields::read64` meets its contract: a wide field is two narrower ones.
+-- Assumes nothing.
 use native.Mathlib.Omega.{arith}
 use Rattle.fields.proofs.Laws.{le-split}
 use borrow.Author.Needs.{needs}

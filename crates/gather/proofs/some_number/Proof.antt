@@ -3,7 +3,8 @@
 use mathlib.Core.Path.{sym, ap, _∙_}
 use borrow.Author.Needs.{needs}
 use Rattle.gather.specs.Gather.{someNumber}
-use Rattle.gather.proofs.Admitted.{and-both, passed, first-refuses, second-decides}
+use Rattle.model.proofs.Counted.{and-both}
+use Rattle.gather.proofs.Admitted.{passed, first-refuses, second-decides}
 use Rattle.gather.proofs.some_number.Statement.{statement}
 use Rattle.gather.proofs.some_number.Tie as tie
 

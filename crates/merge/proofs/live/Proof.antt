@@ -1,7 +1,7 @@
 -- `merge::live` meets its contract.
 -- Assumes nothing.
 use Rattle.merge.specs.Tables.{isLive}
-use Rattle.merge.proofs.Adds.{and-both}
+use Rattle.model.proofs.Counted.{and-both}
 use borrow.Author.Needs.{needs}
 use Rattle.merge.proofs.live.Statement.{statement}
 use Rattle.merge.proofs.live.Tie as tie

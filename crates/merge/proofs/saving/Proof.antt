@@ -3,7 +3,8 @@
 use mathlib.Core.Path.{_≡_, ap}
 use native.Mathlib.Omega.{arith}
 use Prim.Native.Nat.{_+_, _-_}
-use Rattle.merge.specs.Pairs.{payload, saves}
+use Rattle.cost.specs.Forms.{payload}
+use Rattle.merge.specs.Pairs.{saves}
 use Rattle.merge.proofs.Segments.{join-sound, admits-pays, saves-small}
 use borrow.Author.Needs.{needs}
 use Rattle.merge.proofs.saving.Statement.{statement}

@@ -7,7 +7,7 @@ use mathlib.Core.List.{List}
 use Prim.Native.Nat.{ℕ, _-_}
 use lib.ListN.{length}
 use denote.Ref.{now}
-use Rattle.cost.specs.Rows.{positionsOf}
+use Rattle.model.specs.Lists.{positionsOf}
 use Rattle.planning.specs.Refusals.{endsOf}
 use Rattle.planning.specs.Planning.{lateNumber}
 use Rattle.planning.proofs.Sound.{late-zero}

@@ -4,7 +4,8 @@ use native.Mathlib.Omega.{arith}
 use lib.ListN.{length-drop}
 use borrow.Author.Needs.{needs}
 use Rattle.queue.specs.Contracts.{Pushed}
-use Rattle.queue.proofs.Tail.{tail-lent, tail-back}
+use Rattle.model.proofs.Taking.{tail-is}
+use Rattle.queue.proofs.Tail.{tail-back}
 use Rattle.queue.proofs.push_at.Statement.{statement}
 use Rattle.queue.proofs.push_at.Tie as tie
 
@@ -18,7 +19,7 @@ push-at-spec =
     (λ c. search needs)
     (λ c κs.
     let at = c .before .before in
-    rw (tail-lent (at .args .base) (at .args .w .now)) (simp length-drop (omega arith), at .pre .1))
+    rw (tail-is (at .args .base) (at .args .w .now)) (simp length-drop (omega arith), at .pre .1))
     (λ c. search needs)
     (λ c.
     let pu = c .before .before in

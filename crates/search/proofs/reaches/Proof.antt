@@ -1,9 +1,6 @@
 -- `search::reaches` meets its contract: each answer is the comparison that the definition makes.
 -- Assumes nothing.
-use mathlib.Core.Path.{sym, _∙_}
-use native.Mathlib.Omega.{arith}
 use borrow.Author.Needs.{needs}
-use Rattle.search.specs.Search.{allowed}
 use Rattle.search.proofs.Laws.{within, gap-within, past}
 use Rattle.search.proofs.reaches.Statement.{statement}
 use Rattle.search.proofs.reaches.Tie as tie

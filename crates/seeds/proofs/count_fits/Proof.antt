@@ -1,6 +1,6 @@
 -- `seeds::count_fits` meets its contract.
 -- Assumes nothing.
-use Rattle.gather.proofs.Admitted.{and-both}
+use Rattle.model.proofs.Counted.{and-both}
 use Rattle.seeds.proofs.count_fits.Statement.{statement}
 use Rattle.seeds.proofs.count_fits.Tie as tie
 

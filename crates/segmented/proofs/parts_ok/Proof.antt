@@ -1,13 +1,12 @@
 -- `segmented::parts_ok` meets its contract.
 -- Assumes nothing.
-use mathlib.Core.Path.{_≡_, refl, sym, _∙_}
+use mathlib.Core.Path.{_≡_, refl}
 use Prim.Native.Nat.{_≤_, _-_}
 use native.Mathlib.Omega.{arith}
 use Rattle.model.specs.Tests.{all}
 use Rattle.directory.proofs.Parts.{accepts-directory}
 use Rattle.segmented.specs.Segmented.{partAccepts}
 use Rattle.segmented.proofs.Laws.{parts-next, parts-end}
-use borrow.Author.Needs.{needs}
 use Rattle.segmented.proofs.parts_ok.Statement.{statement}
 use Rattle.segmented.proofs.parts_ok.Tie as tie
 

@@ -2,9 +2,8 @@
 -- Assumes nothing.
 use native.Mathlib.Omega.{arith}
 use Rattle.fields.specs.Le.{Bytes}
-use Rattle.segmented.proofs.Laws.{entry-room, entry-start, entry-holds}
-use Rattle.segmented.proofs.Named.{accepted-directory, directory-of, entry-readable, no-segment, placed, segment-answers, some-segment, holding, segment-selects}
-use mathlib.Core.Path.{_∙_, ap, sym}
+use Rattle.segmented.proofs.Laws.{entry-room, entry-start}
+use Rattle.segmented.proofs.Named.{accepted-directory, directory-of, entry-readable, no-segment, placed, segment-answers}
 use borrow.Author.Needs.{needs}
 use Rattle.segmented.proofs.place.Statement.{statement}
 use Rattle.segmented.proofs.place.Tie as tie

@@ -4,8 +4,7 @@ use mathlib.Core.Path.{_∙_, ap, ap₂}
 use mathlib.Core.Bool.{Bool}
 use Prim.Native.Nat.{ℕ, _+_, _%_}
 use Rattle.model.specs.declared.Place.{Place}
-use native.Mathlib.Omega.{arith}
-use Rattle.segmented.specs.Segmented.{countedFrom, placeIn, selectIn, walkIn}
+use Rattle.segmented.specs.Segmented.{countedFrom, placeIn}
 use Rattle.segmented.proofs.Named.{part-sized}
 use borrow.Author.Needs.{needs}
 use Rattle.segmented.proofs.place_in.Statement.{statement}

@@ -2,8 +2,8 @@
 -- Assumes nothing.
 use native.Mathlib.Omega.{arith}
 use Rattle.fields.specs.Le.{Bytes}
-use Rattle.segmented.proofs.Laws.{entry-room, entry-start, entry-holds}
-use Rattle.segmented.proofs.Named.{accepted-directory, directory-of, entry-readable, no-segment, placed, segment-answers, some-segment, holding, segment-selects}
+use Rattle.segmented.proofs.Laws.{entry-room, entry-holds}
+use Rattle.segmented.proofs.Named.{accepted-directory, directory-of, entry-readable, some-segment, holding, segment-selects}
 use borrow.Author.Needs.{needs}
 use Rattle.segmented.proofs.select.Statement.{statement}
 use Rattle.segmented.proofs.select.Tie as tie

@@ -1,8 +1,7 @@
 -- `segmented::select_in` meets its contract.
 -- Assumes nothing.
-use mathlib.Core.Path.{_∙_, ap}
 use native.Mathlib.Omega.{arith}
-use Rattle.segmented.specs.Segmented.{countedFrom, placeIn, selectIn, walkIn}
+use Rattle.segmented.specs.Segmented.{selectIn}
 use Rattle.segmented.proofs.Named.{part-sized}
 use borrow.Author.Needs.{needs}
 use Rattle.segmented.proofs.select_in.Statement.{statement}

@@ -1,14 +1,12 @@
 -- `segmented::walk_from` meets its contract.
 -- Assumes nothing.
 use Prim.Native.Nat.{_+_, _-_}
-use mathlib.Core.Path.{_≡_, _∙_, sym}
 use native.Mathlib.Omega.{arith}
 use Rattle.fields.specs.Le.{Bytes}
 use Rattle.directory.specs.Directory.{rowsBefore}
 use Rattle.segmented.proofs.Laws.{entry-room}
 use Rattle.segmented.proofs.Named.{accepted-directory, directory-of, entry-readable, segment-walk}
 use Rattle.segmented.proofs.Walks.{Going, going-start, going-length, going-room, going-next, going-end, going-full}
-use borrow.Author.Needs.{needs}
 use Rattle.segmented.proofs.walk_from.Statement.{statement}
 use Rattle.segmented.proofs.walk_from.Tie as tie
 

@@ -1,10 +1,8 @@
 -- `single::bitmap_view` meets its contract.
 -- Assumes nothing.
-use mathlib.Core.Path.{sym, refl, _∙_, ap}
-use native.Mathlib.Omega.{arith}
 use borrow.Author.Tests.{le-leb, lt-leb, eq-eqb, ne-eqb}
 use Rattle.model.specs.Tests.{pick}
-use Rattle.single.specs.Single.{bitmapView, view}
+use Rattle.single.specs.Single.{bitmapView}
 use borrow.Author.Needs.{needs}
 use Rattle.single.proofs.bitmap_view.Statement.{statement}
 use Rattle.single.proofs.bitmap_view.Tie as tie

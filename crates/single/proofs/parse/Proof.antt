@@ -1,6 +1,5 @@
 -- `single::parse` meets its contract: each arm is a line of the table.
 -- Assumes nothing.
-use mathlib.Core.Path.{sym, refl, _∙_, ap}
 use native.Mathlib.Omega.{arith}
 use borrow.Author.Tests.{ne-eqb}
 use Rattle.model.specs.Tests.{pick}

@@ -1,10 +1,11 @@
 -- `single::place` meets its contract.
 -- Assumes nothing.
-use mathlib.Core.Path.{sym, ap, _∙_}
+use mathlib.Core.Path.{sym, _∙_}
 use borrow.Author.Tests.{lt-ltb, le-ltb}
 use Rattle.model.proofs.Tests.{pick-true, pick-false}
 use Rattle.single.specs.Single.{viewPlace}
-use Rattle.single.proofs.Laws.{tail-is, lent-sized}
+use Rattle.model.proofs.Taking.{tail-is}
+use Rattle.single.proofs.Laws.{lent-sized}
 use borrow.Author.Needs.{needs}
 use Rattle.single.proofs.place.Statement.{statement}
 use Rattle.single.proofs.place.Tie as tie

@@ -3,7 +3,8 @@
 use mathlib.Core.Path.{ap, _∙_}
 use Prim.Native.Nat.{ℕ, _+_, _%_}
 use Rattle.single.specs.Single.{viewSelect}
-use Rattle.single.proofs.Laws.{tail-is, lent-sized}
+use Rattle.model.proofs.Taking.{tail-is}
+use Rattle.single.proofs.Laws.{lent-sized}
 use borrow.Author.Needs.{needs}
 use Rattle.single.proofs.select.Statement.{statement}
 use Rattle.single.proofs.select.Tie as tie

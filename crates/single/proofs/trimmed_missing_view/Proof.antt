@@ -1,6 +1,5 @@
 -- `single::trimmed_missing_view` meets its contract.
 -- Assumes nothing.
-use mathlib.Core.Path.{sym, refl, _∙_, ap}
 use Rattle.single.specs.Single.{trimmedMissingView}
 use borrow.Author.Needs.{needs}
 use Rattle.single.proofs.trimmed_missing_view.Statement.{statement}

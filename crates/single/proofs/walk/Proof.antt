@@ -1,7 +1,8 @@
 -- `single::walk` meets its contract.
 -- Assumes nothing.
 use Rattle.single.specs.Single.{viewWalk}
-use Rattle.single.proofs.Laws.{tail-is, lent-sized}
+use Rattle.model.proofs.Taking.{tail-is}
+use Rattle.single.proofs.Laws.{lent-sized}
 use borrow.Author.Needs.{needs}
 use Rattle.single.proofs.walk.Statement.{statement}
 use Rattle.single.proofs.walk.Tie as tie

@@ -5,7 +5,8 @@ use Rattle.listing.specs.Records.{answerLine, lineOf}
 use Rattle.model.specs.Tests.{pick}
 use native.Mathlib.Omega.{arith}
 use mathlib.Core.Path.{ap, sym, _∙_}
-use Rattle.listing.proofs.Sizes.{Sized, sized-bounds, rest-part}
+use Rattle.model.proofs.Taking.{tail-is}
+use Rattle.listing.proofs.Sizes.{Sized, sized-bounds}
 use lib.ListN.{length, length-drop}
 use Rattle.rowset.specs.Calls.{validateOf}
 use Rattle.listing.proofs.records.line_of.Statement.{statement}
@@ -32,6 +33,6 @@ line-of-spec =
     (λ c κs. search needs)
     (λ c.
     let fits = sym (c .before .before .before .before .before .before .is-sized .ensures) ∙ c .before .before .before .before .before .if1 .taken in
-    let body = rest-part 5 (c .before .before .before .before .before .before .before .before .args .b .now) in
+    let body = tail-is 5 (c .before .before .before .before .before .before .before .before .args .b .now) in
     rw (fits, length-drop, ← c .before .before .before .big32 .ensures) (c .answered .ensures ∙ ap (answerLine _ _ _) (c .before .validate .ensures ∙ ap (validateOf _ _) body)))
     (λ c. rw (sym (c .before .is-sized .ensures) ∙ c .if1 .left)))

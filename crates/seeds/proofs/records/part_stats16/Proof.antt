@@ -3,7 +3,8 @@
 use mathlib.Core.Path.{sym, ap, _∙_}
 use borrow.Author.Needs.{needs}
 use Rattle.cost.specs.Statistics.{statsOf}
-use Rattle.seeds.proofs.Placing.{part-few, part-positions, positions-zero}
+use Rattle.model.proofs.Positions.{positions-zero}
+use Rattle.seeds.proofs.Placing.{part-few, part-positions}
 use Rattle.seeds.proofs.records.part_stats16.Statement.{statement}
 use Rattle.seeds.proofs.records.part_stats16.Tie as tie
 
