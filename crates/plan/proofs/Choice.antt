@@ -1,8 +1,7 @@
 -- By code order a segmented body is below no form.
 -- Assumes nothing.
-use mathlib.Core.Path.{_≡_, refl, sym, ap, _∙_}
-use mathlib.Core.Bool.{Bool, true, false}
-use mathlib.Core.Logic.{⊎-elim}
+use mathlib.Core.Path.{_≡_, refl}
+use mathlib.Core.Bool.{false}
 use mathlib.Core.List.{List}
 use Prim.Native.Nat.{ℕ, _-_, _≤_}
 use lib.ListN.{length}
@@ -10,7 +9,6 @@ use native.Mathlib.Omega.{arith}
 use lib.Dec.{leb, ltb}
 use borrow.Author.Tests.{le-ltb}
 use Rattle.model.specs.Tests.{pick}
-use Rattle.model.proofs.Tests.{either, pick-true, pick-false}
 use Rattle.model.specs.Lists.{Rising}
 use Rattle.model.proofs.Rising.{rising-below}
 use Rattle.cost.specs.declared.Stats.{Stats}
@@ -18,18 +16,14 @@ use Rattle.cost.specs.Statistics.{statsOf}
 use Rattle.cost.specs.Forms.{orderOf, Over}
 use Rattle.cost.proofs.Joining.{stats-sound}
 use Rattle.planning.specs.Bodies.{segmentedForm}
-
-either-most : (t : Bool) (a b k : ℕ) → a ≤ k → b ≤ k → pick t a b ≤ k
-unfolding pick
-either-most true a b k p q = p
-either-most false a b k p q = q
+use Rattle.planning.proofs.Sound.{pick-most}
 
 order-most : (tag : ℕ) → orderOf tag ≤ 5
 unfolding orderOf
 order-most tag =
-    either-most (leb tag 1) 0 _ 5 (omega arith)
-    (either-most (leb tag 3) 1 _ 5 (omega arith)
-    (either-most (leb tag 5) 2 _ 5 (omega arith) (either-most (leb tag 6) 4 _ 5 (omega arith) (either-most (leb tag 8) 3 5 5 (omega arith) (omega arith)))))
+    pick-most (leb tag 1) 0 _ 5 (omega arith)
+    (pick-most (leb tag 3) 1 _ 5 (omega arith)
+    (pick-most (leb tag 5) 2 _ 5 (omega arith) (pick-most (leb tag 6) 4 _ 5 (omega arith) (pick-most (leb tag 8) 3 5 5 (omega arith) (omega arith)))))
 
 pub order-last : (s tag : ℕ) → s ≡ 9 → ltb (orderOf s) (orderOf tag) ≡ false
 unfolding orderOf pick
