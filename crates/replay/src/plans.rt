@@ -143,11 +143,7 @@ fn same_ordinals(b: &[u8], rows: &[u64]) -> u8 {
     if all.len() < n {
         return 0;
     }
-    if ask_ordinals(b, &all[0..n]) {
-        1
-    } else {
-        2
-    }
+    if ask_ordinals(b, &all[0..n]) { 1 } else { 2 }
 }
 
 fn same(b: &[u8], rows: &[u64]) -> u8 {
