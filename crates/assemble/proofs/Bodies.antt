@@ -19,9 +19,7 @@ use Rattle.single.specs.Layout.{plainLayout, trimmedLayout, singleLayout}
 use Rattle.emit.specs.Written.{Written}
 use Rattle.planning.specs.Bodies.{segmentedLayout, layoutBy}
 use Rattle.assemble.specs.declared.Summary.{Summary}
-use Rattle.assemble.specs.Emission.{Kept, Emittable, Emitted, Writable, Laid}
-use Rattle.assemble.specs.Sums.{Known}
-use Rattle.assemble.proofs.Records.{held-some}
+use Rattle.assemble.specs.Emission.{Emittable, Emitted, Writable, Laid}
 
 module _ (f : Form) (span : ℕ) (xs : List ℕ) (segs : List (List ℕ)) where
   by-segments : f .tag ≡ 9 → layoutBy f span xs segs ≡ segmentedLayout segs
@@ -67,19 +65,3 @@ module _ {n : ℕ} {t : List ℕ} {start : ℕ} {rows : List ℕ} {span : ℕ} {
 
   pub plain-laid : (f .tag ≡ 9 → ⊥) → f .trimmed ≡ false → Written (plainLayout (f .tag) span (positionsOf start rows)) 0 before after r → Laid n t start rows span f before after r
   plain-laid o e l = record { written = λ segs h. rw (by-plain f span (positionsOf start rows) segs o e) l }
-
--- rows that the records hold are known to the walk over them
-pub kept-known : {n : ℕ} {t : List ℕ} {start : ℕ} {rows : List ℕ} → Kept n t start rows → Known n t
-kept-known {n} {t} {start} {rows} k =
-    let up : Rising (start - start) (start + 4294967295 - start) (positionsOf start rows) = positions-rising start (omega arith) (k .covered .rising) in
-    let low : start - start ≡ 0 = omega arith in
-    let high : start + 4294967295 - start ≡ 4294967295 = omega arith in
-    record {
-      seeds = k .seeds;
-      room = k .words;
-      rows = positionsOf start rows;
-      rising = rw (low, high) at up;
-      segs = k .segs;
-      some = held-some (k .held) (omega (arith, k .covered .some, length-positions start rows));
-      held = k .held;
-    }

@@ -36,7 +36,8 @@ use Rattle.encode.proofs.Wholes.{rising-ends, ends-in, trimmed-extent, trimmed-
 use Rattle.encode.proofs.Directories.{Laying, entryFor, laying-start, laying-length, laying-next, laying-end}
 use Rattle.planning.specs.Bodies.{segmentAt, tagOf, payloadOf, entriesOf, payloadAt, segmentedLayout}
 use Rattle.planning.specs.Held.{Held}
-use Rattle.assemble.proofs.Records.{Ahead, ahead, behind, same-segments}
+use Rattle.planning.proofs.Holding.{held-same}
+use Rattle.assemble.proofs.Records.{Ahead, ahead, behind}
 use Rattle.assemble.proofs.Summing.{parted}
 use Rattle.assemble.specs.Emission.{payloadBy, entryBy, Small, Piece, Emittable, Emitted}
 
@@ -254,4 +255,4 @@ module _ {n : ℕ} {t : List ℕ} {start : ℕ} {rows : List ℕ} {m : ℕ} {bef
         let front : Written (digits 2 (total (entriesOf segs .count) m) ++ digits 2 m) 0 out out′ q = rw count w in
         let done : Written (directoryLayout (entriesOf segs) m ++ flat (payloadAt segs) m) 0 before out′ at = laying-end (entriesOf segs) (payloadAt segs) m before (s .laying) all front in
         let body : Written (segmentedLayout segs) 0 before out′ at = rw (← s .given .count) done in
-        record { written = λ us h. rw (same-segments refl h (s .given .kept .held)) body }
+        record { written = λ us h. rw (held-same h (s .given .kept .held)) body }

@@ -1,12 +1,11 @@
--- What the records hold is one cut of the rows: statistics are the records' own, and the segments follow from the rows.
+-- What the records hold: the statistics are the records' own, whatever the rows; and one step along the records. That of given rows they hold one
+-- cut is `held-same` in planning.
 -- Assumes nothing.
 use mathlib.Core.Path.{_≡_, refl, sym, ap, _∙_}
 use mathlib.Core.List.{List, [], _∷_, _++_, append-assoc, append-nil}
 use Prim.Native.Nat.{ℕ, suc, _<_, _≤_}
 use native.Mathlib.Omega.{arith}
 use lib.ListN.{length, length-append}
-use lib.Seq.{take-at, drop-at}
-use Rattle.cost.specs.declared.Stats.{Stats}
 use Rattle.cost.specs.Statistics.{statsOf, spanOf}
 use Rattle.cost.proofs.Joining.{stats-append}
 use Rattle.merge.specs.Tables.{next, statAt}
@@ -42,20 +41,6 @@ module _ {n : ℕ} {t : List ℕ} where
   same-rows (more q l h k s st r) (end e p) = absurd (omega arith)
   same-rows (more {seg = seg} p a b c d e r) (more {seg = seg′} q f g h i j s) = rw (p, q) (same-stats r s seg seg′ c h (sym e ∙ j))
 
-  -- ---- of given rows the segments are these
-
-  pub same-segments : {x : ℕ} {xs ys : List ℕ} {us vs : List (List ℕ)} → xs ≡ ys → Held n t x xs us → Held n t x ys vs → us ≡ vs
-  unfolding statsOf
-  same-segments w (end e p) (end f q) = refl
-  same-segments w (end e p) (more q l h k s st r) = absurd (omega arith)
-  same-segments w (more q l h k s st r) (end e p) = absurd (omega arith)
-  same-segments w (more {seg = seg} {rest = rest} p a b c d e r) (more {seg = seg′} {rest = rest′} q f g h i j s) =
-      let size : length seg ≡ length seg′ = ap (λ (z : Stats). z .count) (sym e ∙ j) in
-      let whole : seg ++ rest ≡ seg′ ++ rest′ = sym p ∙ w ∙ q in
-      let one : seg ≡ seg′ = sym (take-at seg rest (length seg) refl) ∙ rw (whole, size) (take-at seg′ rest′ (length seg′) refl) in
-      let two : rest ≡ rest′ = sym (drop-at seg rest (length seg) refl) ∙ rw (whole, size) (drop-at seg′ rest′ (length seg′) refl) in
-      rw (one, same-segments two r s)
-
 -- ---- one step along the records, and their end
 
 pub record Ahead (n : ℕ) (t : List ℕ) (x : ℕ) (xs : List ℕ) (us : List (List ℕ)) : Type 0 where
@@ -83,8 +68,3 @@ module _ {n : ℕ} {t : List ℕ} where
   pub within : {x : ℕ} {xs : List ℕ} {us : List (List ℕ)} → Held n t x xs us → x ≤ n
   within (end e p) = omega arith
   within (more p a b c d e r) = omega arith
-
-  -- rows make a segment or more
-  pub held-some : {x : ℕ} {xs : List ℕ} {us : List (List ℕ)} → Held n t x xs us → 1 ≤ length xs → 1 ≤ length us
-  held-some (end e p) h = absurd (omega (arith, ap length p))
-  held-some (more p a b c d e r) h = omega arith

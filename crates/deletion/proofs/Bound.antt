@@ -20,9 +20,10 @@ use Rattle.cost.specs.Forms.{itemsForm, bitmapForm, denseForm, always, plainOff
 use Rattle.model.specs.Lists.{positionsOf}
 use Rattle.cost.specs.Statistics.{statsOf}
 use Rattle.cost.proofs.Least.{least-each}
-use Rattle.planning.specs.Refusals.{coverageFits, countFits, rowsFit, givenFit, roomFits, earlyNumber}
+use Rattle.planning.specs.Refusals.{earlyNumber}
 use Rattle.planning.specs.Planning.{plannedSegments, plannedForm, lateNumber, planNumber, planOf}
 use Rattle.planning.proofs.Choosing.{chosen-short}
+use Rattle.planning.proofs.Sound.{early-most}
 use Rattle.planning.proofs.Accepted.{plan-number}
 use Rattle.deletion.specs.Reading.{bodyLimit, blockFits}
 use Rattle.deletion.specs.Striking.{noDeletions, strikeOf}
@@ -44,20 +45,7 @@ pub limit-short : (rows : ℕ) → rows ≤ 65535 → bodyLimit rows ≤ 65535
 unfolding bodyLimit
 limit-short rows h = omega arith
 
--- ---- the tests 1 to 5 give other numbers
-
-pub early-most : (start end : ℕ) (rows seeds : List ℕ) (words : ℕ) → earlyNumber start end rows seeds words ≤ 5
-unfolding earlyNumber
-early-most start end rows seeds words =
-    pick-most (coverageFits start end) _ 1 5
-    (pick-most (countFits rows) _ 2 5
-    (pick-most (rowsFit start end rows) _ 3 5
-    (pick-most (givenFit rows seeds) _ 4 5 (pick-most (roomFits rows seeds words) 0 5 5 (omega arith) (omega arith)) (omega arith))
-    (omega arith))
-    (omega arith))
-    (omega arith)
-
--- ---- and so does every test
+-- ---- no test gives 6
 
 module _ (rows : ℕ) (ordinals : List ℕ) (words room : ℕ) (small : rows ≤ 65535) where
   late-other : lateNumber (plannedForm 0 rows ordinals [] .bytes) (bodyLimit rows) room ≡ 6 → ⊥

@@ -1,5 +1,6 @@
 pub mod Choices
 pub mod One
+pub mod Contracts
 pub mod Order
 pub mod Refused
 pub mod Parts

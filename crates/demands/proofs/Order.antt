@@ -1,16 +1,17 @@
 -- Demand 1: the number that each public call answers is that of the first test that does not pass, in document 01's order, or 0.
 -- Assumes nothing.
 use mathlib.Core.Path.{_≡_, refl, sym, ap, _∙_}
-use mathlib.Core.Bool.{Bool, not}
+use mathlib.Core.Bool.{Bool, true, not}
 use mathlib.Core.List.{List, [], _∷_}
 use Prim.Native.Nat.{ℕ, zero, suc, _+_, _≤_}
+use native.Mathlib.Nat.{le-trans}
 use native.Mathlib.Omega.{arith}
 use lib.Dec.{eqb, leb, ltb}
 use lib.ListN.{length}
-use borrow.Author.Tests.{eq-eqb, ne-eqb, le-leb}
+use borrow.Author.Tests.{eq-eqb, ne-eqb, le-leb, leb-true}
 use Rattle.model.specs.Tests.{pick, both}
 use Rattle.model.specs.Answers.{Answer, accepted, refused}
-use Rattle.model.proofs.Tests.{pick-true, pick-false}
+use Rattle.model.proofs.Tests.{pick-true, pick-false, both-true, both-left}
 use Rattle.bodies.specs.Bodies.{accepts, names}
 use Rattle.rowset.specs.Calls.{asked, validateOf, rankAnswer, selectAnswer, ranksAnswer, walkAnswer, segmentAnswer}
 use Rattle.tables.specs.Tables.{entriesOf, segmentsAnswer}
@@ -19,12 +20,15 @@ use Rattle.gather.specs.Gather.{answered, impossible, above, rises, firstOf, ea
 use Rattle.planning.specs.Refusals.{coverageFits, countFits, rowsFit, givenFit, roomFits, earlyNumber}
 use Rattle.planning.specs.Planning.{plannedForm, lateNumber, planNumber, planOf}
 use Rattle.planning.proofs.Accepted.{answered-number, plan-number}
+use Rattle.seeds.proofs.Ends.{none-fit}
+use Rattle.seeds.proofs.Judging.{ordinals-some}
 use Rattle.deletion.specs.Reading as section
 use Rattle.deletion.specs.Striking.{noDeletions, strikeOf}
+use Rattle.deletion.proofs.Bound.{planned-short, limit-short}
 use Rattle.deletion.specs.declared.Section.{Section}
 use Rattle.deletion.specs.declared.Section.the-variants.{Empty, Coded}
 use Rattle.demands.specs.Demands.{firstDue}
-use Rattle.demands.proofs.Choices.{pick-number, pick-not, pick-then, pick-else}
+use Rattle.demands.proofs.Choices.{by-test, pick-number, pick-not, pick-then, pick-else}
 
 -- ---- reading: 8, then 7
 
@@ -153,13 +157,31 @@ module _ (rows limit : ℕ) where
   unfolding section.walkAnswer section.checkAnswer
   walk-deletions-number s body k room = answered-number _ _ ∙ sym (answered-number _ _)
 
-  pub strike-order : (ordinals : List ℕ) (words room : ℕ) → 1 ≤ length ordinals
+  strike-tests : (ordinals : List ℕ) (words room : ℕ) → 1 ≤ length ordinals
       → strikeOf rows limit ordinals words room .number ≡ firstDue ((section.blockFits rows limit, 9) ∷ planTests 0 rows ordinals [] (section.bodyLimit rows) words room)
   unfolding strikeOf firstDue
-  strike-order ordinals words room some =
+  strike-tests ordinals words room some =
       pick-number (section.blockFits rows limit) _ (refused 9)
       ∙ ap (λ (a : Answer). pick (section.blockFits rows limit) (a .number) 9) (pick-true (planOf 0 rows ordinals [] (section.bodyLimit rows) words room) noDeletions (le-leb 1 (length ordinals) some))
       ∙ ap (λ (n : ℕ). pick (section.blockFits rows limit) n 9) (plan-order 0 rows ordinals [] (section.bodyLimit rows) words room)
+
+  -- of planning's tests 1, 4 and 6 are always met: a block that passes test 9 is a coverage, no seeds are given, and no plan is longer than a bitmap
+  -- of all rows
+  pub strike-order : (ordinals : List ℕ) (words room : ℕ) → rows ≤ 65535 → 1 ≤ length ordinals
+      → strikeOf rows limit ordinals words room .number
+      ≡ firstDue
+      ((section.blockFits rows limit, 9) ∷ (countFits ordinals, 2) ∷ (rowsFit 0 rows ordinals, 3) ∷ (roomFits ordinals [] words, 5)
+      ∷ (leb (plannedForm 0 rows ordinals [] .bytes) room, 7) ∷ [])
+  unfolding firstDue section.blockFits pick
+  strike-order ordinals words room small some =
+      let bytes = plannedForm 0 rows ordinals [] .bytes in
+      let long : both (leb bytes (section.bodyLimit rows)) (leb bytes 65535) ≡ true =
+      let short = planned-short rows ordinals in
+      both-true _ _ (le-leb _ _ short) (le-leb _ _ (le-trans short (limit-short rows small))) in
+      strike-tests ordinals words room some
+      ∙ by-test (λ (a b : ℕ). a ≡ b) (section.blockFits rows limit)
+      (λ e. rw (ordinals-some rows (λ z. omega (arith, leb-true 1 rows (both-left _ _ e))) small, none-fit ordinals [] refl, long))
+      (λ e. refl)
 
   -- without deletions, 9 alone
   pub strike-none-order : (words room : ℕ) → strikeOf rows limit [] words room .number ≡ firstDue ((section.blockFits rows limit, 9) ∷ [])

@@ -30,7 +30,7 @@ use Rattle.planning.proofs.Dividing.{early-divided}
 use Rattle.deletion.specs.Reading as section
 use Rattle.deletion.specs.Striking.{noDeletions, strikes, strikeOf, strikeOut, strikeWork}
 use Rattle.deletion.specs.declared.Section.{Section}
-use Rattle.deletion.proofs.Bound.{early-most}
+use Rattle.planning.proofs.Sound.{early-most}
 use Rattle.demands.specs.Demands.{Kept}
 use Rattle.demands.proofs.Choices.{by-test, together, pick-both, over-beyond}
 

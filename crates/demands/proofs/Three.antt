@@ -4,13 +4,14 @@ use mathlib.Core.Path.{_≡_, refl, sym, ap, _∙_}
 use mathlib.Core.Bool.{true}
 use mathlib.Core.List.{List, [], _∷_}
 use Prim.Native.Nat.{ℕ, _-_, _≤_, _<_}
+use native.Mathlib.Nat.{le-refl}
 use native.Mathlib.Omega.{arith}
 use lib.Dec.{eqb}
 use lib.ListN.{length, getD}
 use lib.Seq.{ext-getD}
 use borrow.Author.Tests.{le-leb}
 use Rattle.fields.specs.Le.{Bytes}
-use Rattle.model.specs.Lists.{Rising, rankOf, selectOf, walkOf, positionsOf}
+use Rattle.model.specs.Lists.{Rising, rankOf, selectOf, walkOf, positionsOf, shift}
 use Rattle.model.specs.Answers.{Answer, accepted, over}
 use Rattle.model.proofs.Tests.{pick-true}
 use Rattle.model.proofs.Standing.{select-is}
@@ -20,7 +21,9 @@ use Rattle.rowset.specs.Calls.{validateOf, rankAnswer, ranksOf, ranksAnswer, ra
 use Rattle.rowset.proofs.Asking.{answers}
 use Rattle.bodies.proofs.Laws.{names-few}
 use Rattle.bodies.proofs.Named.{names-rising, names-some, no-second-body}
+use Rattle.model.proofs.Positions.{positions-back}
 use Rattle.planning.specs.Planning.{planOf, planOut}
+use Rattle.planning.proofs.Accepted.{plan-divided, plan-number}
 use Rattle.demands.proofs.Two.{tagIn, bodyIn, plan-holds, bitmap-flag}
 
 -- ---- plans: two that are accepted over coverages of equal span, with any seeds, limits, workspaces and outputs, give the same tag and
@@ -39,6 +42,18 @@ module _ (start end : ℕ) (rows seeds : List ℕ) (limit words : ℕ) (out : Li
   plans-apart ok ok′ span tag body =
       sym (plan-holds start end rows seeds limit words out ok .named)
       ∙ rw (span, tag, body) (plan-holds start′ end′ rows′ seeds′ limit′ words′ out′ ok′ .named)
+
+  -- and so from equal starts they hold the same rows
+  pub same-rows : one .number ≡ 0 → other .number ≡ 0 → end - start ≡ end′ - start′ → tagIn one ≡ tagIn other
+      → bodyIn one (planOut start end rows seeds limit words out) ≡ bodyIn other (planOut start′ end′ rows′ seeds′ limit′ words′ out′)
+      → start ≡ start′ → rows ≡ rows′
+  same-rows ok ok′ span tag body e =
+      let d = plan-divided start end rows seeds limit words (length out) (sym (plan-number start end rows seeds limit words (length out)) ∙ ok) in
+      let d′ = plan-divided start′ end′ rows′ seeds′ limit′ words′ (length out′) (sym (plan-number start′ end′ rows′ seeds′ limit′ words′ (length out′)) ∙ ok′) in
+      positions-back start (le-refl start) (d .rising)
+      ∙ ap (λ (xs : List ℕ). shift start xs) (plans-apart ok ok′ span tag body)
+      ∙ ap (λ (b : ℕ). shift b (positionsOf start′ rows′)) e
+      ∙ sym (positions-back start′ (le-refl start′) (d′ .rising))
 
 -- ---- bodies: a list is named where it rises below the span, has 1 to 65,535 positions, and every call answers it
 

@@ -1,14 +1,13 @@
 -- A directory and its payloads, written segment by segment: an entry in front, a payload behind.
 -- Assumes nothing.
-use mathlib.Core.Path.{_≡_, refl, sym, ap, _∙_}
-use mathlib.Core.List.{List, [], _∷_, _++_, append-assoc}
-use Prim.Native.Nat.{ℕ, zero, suc, _+_, _-_, _*_, _<_, _≤_}
+use mathlib.Core.Path.{_≡_, refl, sym, _∙_}
+use mathlib.Core.List.{List, _++_, append-assoc}
+use Prim.Native.Nat.{ℕ, _+_, _-_, _*_, _<_, _≤_}
 use native.Mathlib.Nat.{zero-add}
-use native.Mathlib.Numerals.{add-one}
 use native.Mathlib.Omega.{arith}
 use lib.ListN.{length, length-append}
 use lib.Seq.{sets, length-sets}
-use Rattle.fields.specs.Le.{digits, put}
+use Rattle.fields.specs.Le.{digits}
 use Rattle.fields.proofs.Laws.{length-digits}
 use Rattle.model.proofs.Sets.{sets-append}
 use Rattle.model.specs.Tests.{flat, total}
@@ -16,7 +15,7 @@ use Rattle.model.proofs.Tests.{flat-step}
 use Rattle.directory.specs.Directory.{directorySize}
 use Rattle.directory.specs.Layout.{Plan, entryLayout, directoryLayout}
 use Rattle.directory.specs.declared.Segment.{Segment}
-use Rattle.directory.proofs.LaidOut.{length-entry, length-entries, length-layout}
+use Rattle.directory.proofs.LaidOut.{length-entry, length-entries}
 use Rattle.emit.specs.Written.{Written}
 use Rattle.emit.proofs.Storing.{sets-comm}
 use Rattle.encode.specs.Headers.{entryBytes}

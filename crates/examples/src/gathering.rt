@@ -31,44 +31,48 @@ fn record(entries: usize, rows: usize, first: u64, last: u64) -> Gatherer {
     }
 }
 
-// Rows 0 and 65534 as one page are one seed, 0 and 65535 two. Test 12, and a page that is empty.
-pub fn pages() {
+// Rows 0 and 65534 as one page are one seed.
+fn near_page() {
     let mut table = [9u16; 3];
-    let near = [0, 65534];
     say_step(
-        gather::lend_page(record(0, 0, 0, 0), &mut table, &near),
+        gather::lend_page(record(0, 0, 0, 0), &mut table, &[0, 65534]),
         &table,
     );
-    let mut other = [9u16; 3];
-    let far = [0, 65535];
-    let two = gather::lend_page(record(0, 0, 0, 0), &mut other, &far);
-    say_step(two, &other);
-    let none = [0u64; 0];
+}
+
+// Rows 0 and 65535 are two. Then test 12, and a page that is empty.
+fn far_page() {
+    let mut table = [9u16; 3];
+    let two = gather::lend_page(record(0, 0, 0, 0), &mut table, &[0, 65535]);
+    say_step(two, &table);
     say_step(
-        gather::lend_page(record(4, 4, 0, 9), &mut other, &none),
-        &other,
+        gather::lend_page(record(4, 4, 0, 9), &mut table, &[]),
+        &table,
     );
     let g = two.after;
-    say_step(gather::lend_page(g, &mut other, &none), &other);
+    say_step(gather::lend_page(g, &mut table, &[]), &table);
+}
+
+pub(crate) fn pages() {
+    near_page();
+    far_page();
+}
+
+// A row put behind the record, and what is left.
+fn add(g: Gatherer, table: &mut [u16; 3], row: u64) -> Gatherer {
+    let s = gather::lend_row(g, table, row);
+    say_step(s, table);
+    s.after
 }
 
 // Rows after seeds that end at 1 and 2, the second at row 65535: not above it (3); a window of its own; another, for which
 // there is no room (11); one that joins; and one more than 65,535 rows (2).
-pub fn rows() {
+pub(crate) fn rows() {
     let mut table = [1, 2, 9];
     let mut g = record(2, 2, 65535, 65535);
-    let same = gather::lend_row(g, &mut table, 65535);
-    say_step(same, &table);
-    g = same.after;
-    let begun = gather::lend_row(g, &mut table, 65536);
-    say_step(begun, &table);
-    g = begun.after;
-    let full = gather::lend_row(g, &mut table, 70000);
-    say_step(full, &table);
-    g = full.after;
-    say_step(gather::lend_row(g, &mut table, 65537), &table);
-    say_step(
-        gather::lend_row(record(1, 65535, 0, 70000), &mut table, 70001),
-        &table,
-    );
+    g = add(g, &mut table, 65535);
+    g = add(g, &mut table, 65536);
+    g = add(g, &mut table, 70000);
+    add(g, &mut table, 65537);
+    add(record(1, 65535, 0, 70000), &mut table, 70001);
 }

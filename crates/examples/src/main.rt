@@ -1,4 +1,6 @@
-// Document 01's bodies, read by the public calls, and its pages and rows, gathered: each answer on a line of its own, in ten digits, or a word.
+// Document 01's bodies, read by the public calls, its pages and rows, gathered, and its rows, planned: each answer on a line of its own, in ten
+// digits, or a word. All that a function here does is print, and no contract can say what is printed, so none has one: what is printed is compared
+// with the file `stdout`.
 mod gathering;
 mod plans;
 
@@ -75,26 +77,30 @@ fn say_selected(s: Selected) {
     }
 }
 
-// Tags 1, 3, 8 and 7; runs that touch, the same with the second start 3, and the last position that 16 bits hold; more rows than
-// ordinals, and tags that there are not.
-fn check_bodies() {
-    let none = [0u8; 0];
-    let list = [3, 0, 4, 0, 5, 0];
-    let trimmed = [3, 0, 0, 0, 4, 0, 4, 0];
-    let missing = [9, 0, 0, 0, 4, 0];
-    let touching = [4, 0, 2, 0, 0, 0, 2, 0, 0, 0, 2, 0, 2, 0, 2, 0];
-    let apart = [4, 0, 2, 0, 0, 0, 2, 0, 0, 0, 3, 0, 2, 0, 2, 0];
-    let last = [1, 0, 1, 0, 255, 255, 1, 0, 0, 0];
-    say_checked(rowset::validate(1, 5, &none));
-    say_checked(rowset::validate(3, 10, &list));
-    say_checked(rowset::validate(8, 10, &trimmed));
-    say_checked(rowset::validate(7, 10, &missing));
-    say_checked(rowset::validate(4, 10, &touching));
-    say_checked(rowset::validate(4, 10, &apart));
-    say_checked(rowset::validate(4, 65536, &last));
-    say_checked(rowset::validate(1, 65536, &none));
-    say_checked(rowset::validate(0, 5, &none));
-    say_checked(rowset::validate(10, 5, &none));
+fn check(tag: u8, span: u32, body: &[u8]) {
+    say_checked(rowset::validate(tag, span, body));
+}
+
+// Tags 1, 3, 8 and 7.
+fn check_tags() {
+    check(1, 5, &[]);
+    check(3, 10, &[3, 0, 4, 0, 5, 0]);
+    check(8, 10, &[3, 0, 0, 0, 4, 0, 4, 0]);
+    check(7, 10, &[9, 0, 0, 0, 4, 0]);
+}
+
+// Runs that touch, the same with the second start 3, and the last position that 16 bits hold.
+fn check_runs() {
+    check(4, 10, &[4, 0, 2, 0, 0, 0, 2, 0, 0, 0, 2, 0, 2, 0, 2, 0]);
+    check(4, 10, &[4, 0, 2, 0, 0, 0, 2, 0, 0, 0, 3, 0, 2, 0, 2, 0]);
+    check(4, 65536, &[1, 0, 1, 0, 255, 255, 1, 0, 0, 0]);
+}
+
+// More rows than ordinals, and tags that there are not.
+fn check_numbers() {
+    check(1, 65536, &[]);
+    check(0, 5, &[]);
+    check(10, 5, &[]);
 }
 
 // Twelve rows in one segment: 100000 + 100 i.
@@ -147,18 +153,30 @@ fn twelve() -> [u8; 44] {
     ]
 }
 
-fn ask_segmented() {
-    let body = twelve();
-    say_checked(rowset::validate(9, 200000, &body));
-    say_ranked(rowset::rank(9, 200000, &body, 100300));
-    say_ranked(rowset::rank(9, 200000, &body, 100301));
-    say_selected(rowset::select(9, 200000, &body, 11));
-    say_selected(rowset::select(9, 200000, &body, 12));
+fn rank_twelve(position: u32) {
+    say_ranked(rowset::rank(9, 200000, &twelve(), position));
+}
+
+fn select_twelve(ordinal: u16) {
+    say_selected(rowset::select(9, 200000, &twelve(), ordinal));
+}
+
+// The last two rows, and a place of the output that stays.
+fn walk_twelve() {
     let mut out = [7u32; 3];
-    rowset::walk(9, 200000, &body, 10, &mut out);
+    rowset::walk(9, 200000, &twelve(), 10, &mut out);
     say32(out[0]);
     say32(out[1]);
     say32(out[2]);
+}
+
+fn ask_twelve() {
+    check(9, 200000, &twelve());
+    rank_twelve(100300);
+    rank_twelve(100301);
+    select_twelve(11);
+    select_twelve(12);
+    walk_twelve();
 }
 
 fn say_segment(s: Segment) {
@@ -234,13 +252,15 @@ fn list_segments() {
     say_segment(list(9, 200000, &twelve()));
     say_segment(list(3, 10, &[3, 0, 4, 0, 5, 0]));
     say_segment(list(9, 1000, &twelve()));
-    say_checked(rowset::validate(9, 5, &three()));
+    check(9, 5, &three());
     say_segment(list(9, 5, &three()));
 }
 
 fn main() {
-    check_bodies();
-    ask_segmented();
+    check_tags();
+    check_runs();
+    check_numbers();
+    ask_twelve();
     gathering::pages();
     gathering::rows();
     list_segments();

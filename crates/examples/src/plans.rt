@@ -46,14 +46,18 @@ fn show(start: u64, end: u64, rows: &[u64]) {
     say_plan(p, &out);
 }
 
-// Every planning example, in document 01's order.
-pub fn all() {
+// Within a few rows, and at the last position of 16 bits.
+fn near() {
     show(100, 105, &[100, 101, 102, 103, 104]);
     show(0, 10, &[3, 4, 5]);
     show(0, 10, &[3, 4, 5, 6]);
     show(0, 10, &[0, 1, 2, 3, 5, 6, 7, 8, 9]);
     show(0, 65537, &[65535]);
     show(0, 65537, &[65536]);
+}
+
+// Runs, and every other row.
+fn runs() {
     show(
         0,
         200,
@@ -118,6 +122,10 @@ pub fn all() {
             62,
         ],
     );
+}
+
+// Ten and twelve rows, 100 apart.
+fn apart() {
     show(
         0,
         200000,
@@ -152,6 +160,10 @@ pub fn all() {
             101100,
         ],
     );
+}
+
+// Over several windows.
+fn windows() {
     show(0, 10000, &[0, 4096, 8192]);
     show(
         0,
@@ -182,12 +194,20 @@ pub fn all() {
     show(0, 65536, &[0, 65535]);
 }
 
+// Every planning example, in document 01's order.
+pub(crate) fn all() {
+    near();
+    runs();
+    apart();
+    windows();
+}
+
 fn say8(n: u8) {
     say(n as u64);
 }
 
 // Refusals 1 to 3, and rows at the top of u64.
-pub fn edges() {
+pub(crate) fn edges() {
     show(7, 7, &[7]);
     show(0, 10, &[]);
     show(0, 10, &[3, 3]);
@@ -208,7 +228,7 @@ fn seeded(seeds: &[u16], limit: usize) {
 }
 
 // Refusals 4 and 5, which leave the workspace; 6, and a plan, which zero it.
-pub fn seeds() {
+pub(crate) fn seeds() {
     seeded(&[1], 65535);
     seeded(&[1, 2], 65535);
     seeded(&[2], 3);
@@ -224,7 +244,7 @@ fn ordinals(row_count: u16, limit: usize) {
     say8(out[4]);
 }
 
-pub fn struck() {
+pub(crate) fn struck() {
     ordinals(10, 4);
     ordinals(5, 4);
 }

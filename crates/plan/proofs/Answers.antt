@@ -1,6 +1,6 @@
 -- What is answered and left once the tests before merging are decided, by the tests after it.
 -- Assumes nothing.
-use mathlib.Core.Path.{_≡_, refl, sym, ap, _∙_}
+use mathlib.Core.Path.{_≡_, sym, ap, _∙_}
 use mathlib.Core.List.{List, _++_}
 use Prim.Native.Nat.{ℕ, _*_, _≤_}
 use mathlib.Core.Logic.{⊎-elim}

@@ -2,3 +2,4 @@ pub mod Choice
 pub mod Answers
 pub mod Ready
 pub mod Same
+pub mod Steps

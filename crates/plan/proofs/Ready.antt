@@ -1,7 +1,7 @@
 -- From the tests to a workspace that can be merged, and from there to a body that has room.
 -- Assumes nothing.
-use mathlib.Core.Path.{_≡_, refl, ap, _∙_}
-use mathlib.Core.List.{List, [], _∷_, _++_}
+use mathlib.Core.Path.{_≡_, _∙_}
+use mathlib.Core.List.{List}
 use Prim.Native.Nat.{ℕ, suc, _+_, _-_, _*_, _<_, _≤_}
 use native.Mathlib.Omega.{arith}
 use lib.ListN.{length, length-append}
@@ -12,7 +12,6 @@ use Rattle.model.proofs.Positions.{length-positions}
 use Rattle.model.proofs.Rising.{rising-wider}
 use Rattle.model.specs.Answers.{accepted, over}
 use Rattle.model.proofs.Sets.{sets-front}
-use Rattle.emit.specs.Written.{Written}
 use Rattle.merge.specs.Tables.{records, statAt}
 use Rattle.planning.specs.Segments.{between, segmentsOf}
 use Rattle.planning.specs.Bodies.{formFor, layoutBy, bodyOf}

@@ -37,7 +37,7 @@ pub record Divides (total : ℕ) (ends : List ℕ) : Type 0 where
   pub full : startOf ends (length ends) ≡ total
 
 -- what goes up at each step goes up over many
-climbs : (s : ℕ → ℕ) (n : ℕ) → ((i : ℕ) → i < n → s i < s (suc i)) → (l m : ℕ) → l ≤ m → m ≤ n → s l + (m - l) ≤ s m
+pub climbs : (s : ℕ → ℕ) (n : ℕ) → ((i : ℕ) → i < n → s i < s (suc i)) → (l m : ℕ) → l ≤ m → m ≤ n → s l + (m - l) ≤ s m
 climbs s n up l zero h k = let e : l ≡ 0 = omega arith in rw e (omega arith)
 climbs s n up l (suc m) h k =
     ⊎-elim
@@ -45,7 +45,8 @@ climbs s n up l (suc m) h k =
     (λ g. omega (arith, climbs s n up l m (omega arith) (omega arith), up m (omega arith)))
     (eq-or-lt-of-le h)
 
-seed-fits : (rows ends : List ℕ) → seedsFit rows ends ≡ true → (i : ℕ) → i < length ends → seedAt rows ends i ≡ true
+-- test 4, seed by seed
+pub seed-fits : (rows ends : List ℕ) → seedsFit rows ends ≡ true → (i : ℕ) → i < length ends → seedAt rows ends i ≡ true
 unfolding seedsFit
 seed-fits rows ends e = all-at (seedAt rows ends) (length ends) (both-left _ _ e)
 
@@ -149,14 +150,15 @@ ends-fit rows seeds h k g =
 
 -- ---- what the tests before merging give
 
-rises-at : (rows : List ℕ) → rises rows ≡ true → (i : ℕ) → i < length rows - 1 → getD rows i 0 < getD rows (suc i) 0
+-- a list that passes the test rises at each step
+pub rises-next : (rows : List ℕ) → rises rows ≡ true → (i : ℕ) → i < length rows - 1 → getD rows i 0 < getD rows (suc i) 0
 unfolding rises upAt
-rises-at rows e i h = rw (← add-one i) (ltb-true (getD rows i 0) (getD rows (i + 1) 0) (all-at (upAt rows) (length rows - 1) e i h))
+rises-next rows e i h = rw (← add-one i) (ltb-true (getD rows i 0) (getD rows (i + 1) 0) (all-at (upAt rows) (length rows - 1) e i h))
 
 rows-rise : (start end : ℕ) (rows : List ℕ) → rowsFit start end rows ≡ true → Rising start end rows
 unfolding rowsFit
 rows-rise start end rows e =
-    let up = rises-at rows (both-right _ _ e) in
+    let up = rises-next rows (both-right _ _ e) in
     let far = climbs (λ (i : ℕ). getD rows i 0) (length rows - 1) up in
     let low = leb-true start (getD rows 0 0) (both-left _ _ (both-left _ _ e)) in
     let high = ltb-true (getD rows (length rows - 1) 0) end (both-right _ _ (both-left _ _ e)) in
@@ -179,29 +181,31 @@ pub record Divided (start end : ℕ) (rows ends : List ℕ) (words : ℕ) : Type
   pub few-seeds : length ends ≤ 65535
   pub room : length ends * 24 ≤ words
 
--- test 4 is met
-pub early-given : (start end : ℕ) (rows seeds : List ℕ) (words : ℕ) → earlyNumber start end rows seeds words ≡ 0 → givenFit rows seeds ≡ true
+-- the tests, each met
+early-met : (start end : ℕ) (rows seeds : List ℕ) (words : ℕ) → earlyNumber start end rows seeds words ≡ 0
+    → (coverageFits start end ≡ true) × (countFits rows ≡ true) × (rowsFit start end rows ≡ true) × (givenFit rows seeds ≡ true) × (roomFits rows seeds words ≡ true)
 unfolding earlyNumber
-early-given start end rows seeds words e =
-    let coverage = passes (coverageFits start end) 1 _ (λ z. omega arith) e in
-    let count = passes (countFits rows) 2 _ (λ z. omega arith) (coverage .1) in
-    let inside = passes (rowsFit start end rows) 3 _ (λ z. omega arith) (count .1) in
-    passes (givenFit rows seeds) 4 _ (λ z. omega arith) (inside .1) .0
-
-pub early-divided : (start end : ℕ) (rows seeds : List ℕ) (words : ℕ) → earlyNumber start end rows seeds words ≡ 0 → Divided start end rows (endsOf rows seeds) words
-unfolding earlyNumber coverageFits countFits roomFits
-early-divided start end rows seeds words e =
+early-met start end rows seeds words e =
     let coverage = passes (coverageFits start end) 1 _ (λ z. omega arith) e in
     let count = passes (countFits rows) 2 _ (λ z. omega arith) (coverage .1) in
     let inside = passes (rowsFit start end rows) 3 _ (λ z. omega arith) (count .1) in
     let given = passes (givenFit rows seeds) 4 _ (λ z. omega arith) (inside .1) in
     let spare = passes (roomFits rows seeds words) 5 _ (λ z. omega arith) (given .1) in
-    let before = ltb-true start end (both-left _ _ (coverage .0)) in
-    let spans = leb-true (end - start) 4294967295 (both-right _ _ (coverage .0)) in
-    let some = leb-true 1 (length rows) (both-left _ _ (count .0)) in
-    let few = leb-true (length rows) 65535 (both-right _ _ (count .0)) in
-    let rising = rows-rise start end rows (inside .0) in
-    let fit = ends-fit rows seeds some few (given .0) in
+    (coverage .0, count .0, inside .0, given .0, spare .0)
+
+pub early-given : (start end : ℕ) (rows seeds : List ℕ) (words : ℕ) → earlyNumber start end rows seeds words ≡ 0 → givenFit rows seeds ≡ true
+early-given start end rows seeds words e = early-met start end rows seeds words e .3
+
+pub early-divided : (start end : ℕ) (rows seeds : List ℕ) (words : ℕ) → earlyNumber start end rows seeds words ≡ 0 → Divided start end rows (endsOf rows seeds) words
+unfolding coverageFits countFits roomFits
+early-divided start end rows seeds words e =
+    let t = early-met start end rows seeds words e in
+    let before = ltb-true start end (both-left _ _ (t .0)) in
+    let spans = leb-true (end - start) 4294967295 (both-right _ _ (t .0)) in
+    let some = leb-true 1 (length rows) (both-left _ _ (t .1)) in
+    let few = leb-true (length rows) 65535 (both-right _ _ (t .1)) in
+    let rising = rows-rise start end rows (t .2) in
+    let fit = ends-fit rows seeds some few (t .3) in
     let d = fit-divides rows (endsOf rows seeds) fit some in
     let z : start - start ≡ 0 = omega arith in
     record {
@@ -215,5 +219,5 @@ early-divided start end rows seeds words e =
       fit = fit;
       any-seeds = d .some;
       few-seeds = omega (arith, divides-few (length rows) (endsOf rows seeds) d);
-      room = leb-true (length (endsOf rows seeds) * 24) words (spare .0);
+      room = leb-true (length (endsOf rows seeds) * 24) words (t .4);
     }

@@ -6,7 +6,6 @@ use mathlib.Core.List.{List}
 use Prim.Native.Nat.{ℕ, suc, _+_, _-_, _<_, _≤_}
 use native.Mathlib.Omega.{arith}
 use lib.ListN.{length, getD}
-use Rattle.fields.specs.Le.{Bytes}
 use Rattle.model.specs.Tests.{pick}
 use Rattle.model.specs.Lists.{Rising, none, more, shift, positionsOf}
 use Rattle.model.proofs.Rising.{rising-room, rising-wider}
@@ -14,7 +13,6 @@ use Rattle.model.proofs.Positions.{length-positions, positions-back}
 use Rattle.model.proofs.Counted.{Count}
 use Rattle.forms.specs.Forms.{localAccepts, localNames}
 use Rattle.forms.proofs.Laid.{LocalFits, fits-dense, fits-list, fits-runs, fits-bitmap, fits-missing, layout-accepts, layout-names}
-use Rattle.forms.proofs.Bytes.{layout-bytes}
 use Rattle.single.specs.Layout.{firstOf, extentOf}
 use Rattle.directory.specs.Directory.{isLocal}
 use Rattle.cost.specs.declared.Stats.{Stats}
@@ -45,10 +43,6 @@ module _ (seg : List ℕ) where
   pub tag-small : tagOf seg < 256
   unfolding tagOf
   tag-small = each-tag (localForm (statsOf seg)) (local-chosen (statsOf seg)) .1
-
-  pub payload-bytes : Bytes (payloadOf seg)
-  unfolding payloadOf
-  payload-bytes = layout-bytes (tagOf seg) (extentOf seg) (positionsOf (firstOf seg) seg)
 
 -- ---- the rows counted from the first
 

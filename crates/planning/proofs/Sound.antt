@@ -2,6 +2,7 @@
 -- And what the numbers of a plan that is not refused say.
 -- Assumes nothing.
 use mathlib.Core.Path.{_≡_, sym, _∙_}
+use mathlib.Core.Bool.{Bool, true, false}
 use mathlib.Core.Logic.{⊎-elim}
 use mathlib.Core.List.{List}
 use Prim.Native.Nat.{ℕ, _≤_}
@@ -9,13 +10,13 @@ use native.Mathlib.Omega.{arith}
 use lib.Dec.{eqb, leb}
 use lib.ListN.{length}
 use borrow.Author.Tests.{eq-eqb, eqb-true, leb-true}
-use Rattle.model.specs.Tests.{both}
+use Rattle.model.specs.Tests.{pick, both}
 use Rattle.model.specs.Lists.{Rising}
 use Rattle.model.proofs.Tests.{either, both-left, both-right, pick-true, pick-false}
 use Rattle.cost.specs.declared.Form.{Form}
 use Rattle.cost.proofs.Stated.{stated-whole}
 use Rattle.gather.proofs.Admitted.{passes}
-use Rattle.planning.specs.Refusals.{earlyNumber}
+use Rattle.planning.specs.Refusals.{coverageFits, countFits, rowsFit, givenFit, roomFits, earlyNumber}
 use Rattle.planning.specs.Segments.{statsEach}
 use Rattle.planning.specs.Bodies.{segmentedForm, segmentedLayout, formFor, bodyOf}
 use Rattle.planning.specs.Planning.{plannedForm, lateNumber, planNumber}
@@ -45,6 +46,24 @@ module _ {span : ℕ} {xs : List ℕ} {segs : List (List ℕ)} (r : Rising 0 spa
 
     pub body-holds : length (bodyOf span xs segs) ≤ 65535 → Holds (formFor span xs segs .tag) span xs (bodyOf span xs segs)
     body-holds = each-holds (formFor span xs segs) (bodyOf span xs segs) (choice span xs segs)
+
+-- ---- the numbers of the tests before merging
+
+pub pick-most : (t : Bool) (a b m : ℕ) → a ≤ m → b ≤ m → pick t a b ≤ m
+unfolding pick
+pick-most true a b m p q = p
+pick-most false a b m p q = q
+
+pub early-most : (start end : ℕ) (rows seeds : List ℕ) (words : ℕ) → earlyNumber start end rows seeds words ≤ 5
+unfolding earlyNumber
+early-most start end rows seeds words =
+    pick-most (coverageFits start end) _ 1 5
+    (pick-most (countFits rows) _ 2 5
+    (pick-most (rowsFit start end rows) _ 3 5
+    (pick-most (givenFit rows seeds) _ 4 5 (pick-most (roomFits rows seeds words) 0 5 5 (omega arith) (omega arith)) (omega arith))
+    (omega arith))
+    (omega arith))
+    (omega arith)
 
 -- ---- the numbers of a plan that is not refused
 

@@ -1,6 +1,6 @@
 -- What a segmented body costs, its bytes, and the choice between it and the cheapest whole form: document 01, "Costs" and "Bodies by tag".
 -- Assumes nothing.
-use mathlib.Core.Bool.{Bool, false}
+use mathlib.Core.Bool.{false}
 use mathlib.Core.List.{List, [], _∷_, _++_}
 use Prim.Native.Nat.{ℕ, _+_, _*_}
 use lib.Dec.{eqb, leb}

@@ -1,6 +1,5 @@
 -- Planning: what is answered, and what stands in the output and in the workspace then. Document 01, from its refusals to its bodies.
 -- Assumes nothing.
-use mathlib.Core.Bool.{Bool}
 use mathlib.Core.List.{List, [], _∷_}
 use Prim.Native.Nat.{ℕ, _-_, _*_}
 use lib.Dec.{eqb, leb}

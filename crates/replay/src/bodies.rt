@@ -7,6 +7,8 @@ use crate::list::number8;
 use crate::list::number16;
 use crate::list::number32;
 use crate::list::rows_of;
+use crate::spaces::row_space;
+use crate::spaces::walk_space;
 use rowset::Checked;
 use rowset::Filled;
 use rowset::Ranked;
@@ -32,7 +34,7 @@ fn items_at(b: &[u8]) -> usize
 }
 
 // Whether the case has the bytes that its numbers say.
-pub fn is_whole(b: &[u8]) -> bool {
+fn is_whole(b: &[u8]) -> bool {
     items_at(b) + count16(b, 16) * 4 == b.len()
 }
 
@@ -127,17 +129,18 @@ fn ask_walk(b: &[u8], body: &[u8], walked: &mut [u32]) -> Filled {
     rowset::walk(number8(b, 0), number32(b, 1), body, number16(b, 12), walked)
 }
 
-fn same_walk(b: &[u8], body: &[u8], rows: &mut [u64], walked: &mut [u32]) -> bool {
+fn same_walk(b: &[u8], body: &[u8]) -> bool {
+    let mut row_array = row_space();
+    let rows: &mut [u64] = &mut row_array;
     let n = rows_of(b, items_at(b), count16(b, 16), 0, rows);
+    let mut walk_array = walk_space();
+    let walked: &mut [u32] = &mut walk_array;
     let room = count16(b, 14);
-    if walked.len() < room {
-        return false;
-    }
     let f = ask_walk(b, body, &mut walked[0..room]);
     same_filled(b, f, walked, rows, n)
 }
 
-fn same_answers(b: &[u8], body: &[u8], rows: &mut [u64], walked: &mut [u32]) -> bool {
+fn same_answers(b: &[u8], body: &[u8]) -> bool {
     if !same_checked(b, rowset::validate(number8(b, 0), number32(b, 1), body)) {
         return false;
     }
@@ -147,17 +150,21 @@ fn same_answers(b: &[u8], body: &[u8], rows: &mut [u64], walked: &mut [u32]) -> 
     if !same_selects(b, body, selects_at(b), count8(b, 11)) {
         return false;
     }
-    same_walk(b, body, rows, walked)
+    same_walk(b, body)
 }
 
-// Whether every answer on the body is as the list says.
-pub fn same_body(b: &[u8], rows: &mut [u64], walked: &mut [u32]) -> bool {
+// Runs the case: 0 every answer on the body is as the list says, 2 otherwise, 3 the case is broken.
+pub(crate) fn run(b: &[u8]) -> u8 {
     let n = count16(b, 5);
-    if b.len() < 18 {
-        return false;
+    if b.len() < 18 + n {
+        return 3;
     }
-    if b.len() - 18 < n {
-        return false;
+    if !is_whole(b) {
+        return 3;
     }
-    same_answers(b, &b[18..18 + n], rows, walked)
+    if same_answers(b, &b[18..18 + n]) {
+        0
+    } else {
+        2
+    }
 }

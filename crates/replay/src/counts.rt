@@ -2,6 +2,7 @@
 // refused bodies, plans that were also planned as ordinals, trimmed bitmaps planned, trimmed bitmaps read, ranks, selects, walks,
 // deletions planned, none, refused, deletions read, refused.
 use crate::list::number8;
+use crate::plans::flag;
 use libc::STDOUT_FILENO;
 
 // Counts end at 2^32: a list is far shorter.
@@ -34,9 +35,9 @@ fn trimmed(tag: u8, flag: u8) -> u8 {
     if flag == 1 { 1 } else { 0 }
 }
 
-// A plan, and whether it was planned as ordinals too.
-pub fn plan(counts: &mut [u64], b: &[u8], flag: u8, narrow: u8) {
-    add(counts, 31, narrow);
+// A plan; `also` is 1 where it was planned as ordinals too.
+fn plan(counts: &mut [u64], b: &[u8], also: u8) {
+    add(counts, 31, also);
     let number = number8(b, 24);
     let tag = number8(b, 25);
     if number != 0 {
@@ -44,10 +45,10 @@ pub fn plan(counts: &mut [u64], b: &[u8], flag: u8, narrow: u8) {
         return;
     }
     add(counts, place(tag, 0), 1);
-    add(counts, 32, trimmed(tag, flag));
+    add(counts, 32, trimmed(tag, flag(b)));
 }
 
-pub fn body(counts: &mut [u64], b: &[u8]) {
+fn body(counts: &mut [u64], b: &[u8]) {
     let tag = number8(b, 0);
     add(counts, 34, number8(b, 10));
     add(counts, 35, number8(b, 11));
@@ -60,7 +61,7 @@ pub fn body(counts: &mut [u64], b: &[u8]) {
     add(counts, 33, trimmed(tag, number8(b, 20)));
 }
 
-pub fn struck(counts: &mut [u64], b: &[u8]) {
+fn struck(counts: &mut [u64], b: &[u8]) {
     if number8(b, 6) != 0 {
         add(counts, 39, 1);
         return;
@@ -72,12 +73,29 @@ pub fn struck(counts: &mut [u64], b: &[u8]) {
     add(counts, 37, 1);
 }
 
-pub fn section(counts: &mut [u64], b: &[u8]) {
+fn section(counts: &mut [u64], b: &[u8]) {
     if number8(b, 11) == 0 {
         add(counts, 40, 1);
     } else {
         add(counts, 41, 1);
     }
+}
+
+// A case of a kind, run; `also` is 1 where a plan was planned as ordinals too.
+pub(crate) fn case(counts: &mut [u64], kind: u8, b: &[u8], also: u8) {
+    if kind == 1 {
+        plan(counts, b, also);
+        return;
+    }
+    if kind == 2 {
+        body(counts, b);
+        return;
+    }
+    if kind == 3 {
+        struck(counts, b);
+        return;
+    }
+    section(counts, b);
 }
 
 fn at(counts: &[u64], i: usize) -> u64 {
@@ -96,7 +114,7 @@ fn line(text: &[u8], counts: &[u64], from: usize, to: usize) {
     io::write_all(STDOUT_FILENO, b"\n");
 }
 
-pub fn say(counts: &[u64]) {
+pub(crate) fn say(counts: &[u64]) {
     line(b"plans with tags 1 to 9:", counts, 1, 10);
     line(b"plans refused with numbers 1 to 6:", counts, 11, 17);
     line(b"also planned as ordinals:", counts, 31, 32);

@@ -8,7 +8,10 @@ use crate::list::number8;
 use crate::list::number16;
 use crate::list::rows_of;
 use crate::list::same_bytes;
-use crate::list::spoil;
+use crate::spaces::ordinal_space;
+use crate::spaces::out_space;
+use crate::spaces::row_space;
+use crate::spaces::work_space;
 use deletion::Contained;
 use deletion::Counted;
 use deletion::Section;
@@ -26,13 +29,8 @@ fn body_at(b: &[u8]) -> usize
 }
 
 // Whether a case of planning has the bytes that its numbers say.
-pub fn plan_is_whole(b: &[u8]) -> bool {
+fn plan_is_whole(b: &[u8]) -> bool {
     body_at(b) + count16(b, 8) == b.len()
-}
-
-// The ordinals of a case of planning, in front.
-pub fn planned_rows(b: &[u8], rows: &mut [u64]) -> usize {
-    rows_of(b, 12, count16(b, 10), 0, rows)
 }
 
 fn same_made(b: &[u8], m: Body, out: &[u8]) -> bool {
@@ -56,28 +54,41 @@ fn same_struck(b: &[u8], s: Struck, out: &[u8]) -> bool {
     }
 }
 
-fn ask_plan(b: &[u8], ordinals: &[u16], work: &mut [u32], out: &mut [u8]) -> bool {
-    spoil(out, count16(b, 8));
-    let s = deletion::plan_deletions(number16(b, 0), count32(b, 2), ordinals, work, out);
-    same_struck(b, s, out)
+fn ask_plan(b: &[u8], ordinals: &[u16]) -> bool {
+    let mut work = work_space();
+    let mut out = out_space();
+    let s = deletion::plan_deletions(number16(b, 0), count32(b, 2), ordinals, &mut work, &mut out);
+    same_struck(b, s, &out)
 }
 
 // Whether the deletions are planned as the list says.
-pub fn same_planned(
-    b: &[u8],
-    rows: &[u64],
-    ordinals: &mut [u16],
-    work: &mut [u32],
-    out: &mut [u8],
-) -> bool {
+fn same_planned(b: &[u8], rows: &[u64]) -> bool {
+    let mut space = ordinal_space();
+    let ordinals: &mut [u16] = &mut space;
     if !narrow(rows, ordinals) {
         return false;
     }
     let n = rows.len();
-    if ordinals.len() < n {
+    let all = &ordinals[..];
+    if all.len() < n {
         return false;
     }
-    ask_plan(b, &ordinals[0..n], work, out)
+    ask_plan(b, &all[0..n])
+}
+
+// Runs a case of planning: 0 as the list says, 2 otherwise, 3 the case is broken.
+pub(crate) fn run_planned(b: &[u8]) -> u8 {
+    if !plan_is_whole(b) {
+        return 3;
+    }
+    let mut space = row_space();
+    let rows: &mut [u64] = &mut space;
+    let n = rows_of(b, 12, count16(b, 10), 0, rows);
+    let all = &rows[..];
+    if all.len() < n {
+        return 3;
+    }
+    if same_planned(b, &all[0..n]) { 0 } else { 2 }
 }
 
 // ---- read
@@ -89,7 +100,7 @@ fn walk_at(b: &[u8]) -> usize
 }
 
 // Whether a case of reading has the bytes that its numbers say.
-pub fn read_is_whole(b: &[u8]) -> bool {
+fn read_is_whole(b: &[u8]) -> bool {
     walk_at(b) + count16(b, 15) * 4 == b.len()
 }
 
@@ -151,8 +162,12 @@ fn ask_walk(b: &[u8], body: &[u8], walked: &mut [u16]) -> Filled {
     deletion::walk_deletions(number16(b, 0), count32(b, 2), section(b), body, 0, walked)
 }
 
-fn same_walk(b: &[u8], body: &[u8], rows: &mut [u64], walked: &mut [u16]) -> bool {
+fn same_walk(b: &[u8], body: &[u8]) -> bool {
+    let mut row_array = row_space();
+    let rows: &mut [u64] = &mut row_array;
     let n = rows_of(b, walk_at(b), count16(b, 15), 0, rows);
+    let mut walk_array = ordinal_space();
+    let walked: &mut [u16] = &mut walk_array;
     let f = ask_walk(b, body, walked);
     same_filled(b, f, walked, rows, n)
 }
@@ -167,21 +182,19 @@ fn same_asked(b: &[u8], body: &[u8]) -> bool {
     same_contained(b, c)
 }
 
-fn same_answers(b: &[u8], body: &[u8], rows: &mut [u64], walked: &mut [u16]) -> bool {
-    if !same_asked(b, body) {
-        return false;
-    }
-    same_walk(b, body, rows, walked)
-}
-
-// Whether every answer on the section is as the list says.
-pub fn same_read(b: &[u8], rows: &mut [u64], walked: &mut [u16]) -> bool {
+// Runs a case of reading: 0 every answer on the section is as the list says, 2 otherwise, 3 the case is broken.
+pub(crate) fn run_read(b: &[u8]) -> u8 {
     let n = count16(b, 9);
-    if b.len() < 17 {
-        return false;
+    if b.len() < 17 + n {
+        return 3;
     }
-    if b.len() - 17 < n {
-        return false;
+    if !read_is_whole(b) {
+        return 3;
     }
-    same_answers(b, &b[17..17 + n], rows, walked)
+    let body = &b[17..17 + n];
+    if same_asked(b, body) & same_walk(b, body) {
+        0
+    } else {
+        2
+    }
 }

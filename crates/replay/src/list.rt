@@ -3,19 +3,18 @@
 // Rows are items of two numbers, a gap and how many rows follow, each that gap after the one before it. No row: a gap that counts
 // 65,536 each. 65,535 rows: a gap backwards.
 ghost use Prim.Native.Nat.{_+_, _≤_};
-ghost use lib.ListN.{length};
 
 // Rows so far, and the last one.
-pub struct Stand {
-    pub at: usize,
-    pub row: u64,
+struct Stand {
+    at: usize,
+    row: u64,
 }
 
-pub fn number8(b: &[u8], at: usize) -> u8 {
+pub(crate) fn number8(b: &[u8], at: usize) -> u8 {
     if at < b.len() { b[at] } else { 0 }
 }
 
-pub fn number16(b: &[u8], at: usize) -> u16 {
+pub(crate) fn number16(b: &[u8], at: usize) -> u16 {
     if b.len() < 2 {
         return 0;
     }
@@ -25,7 +24,7 @@ pub fn number16(b: &[u8], at: usize) -> u16 {
     fields::read16(b, at)
 }
 
-pub fn number32(b: &[u8], at: usize) -> u32 {
+pub(crate) fn number32(b: &[u8], at: usize) -> u32 {
     if b.len() < 4 {
         return 0;
     }
@@ -35,7 +34,7 @@ pub fn number32(b: &[u8], at: usize) -> u32 {
     fields::read32(b, at)
 }
 
-pub fn number64(b: &[u8], at: usize) -> u64 {
+pub(crate) fn number64(b: &[u8], at: usize) -> u64 {
     if b.len() < 8 {
         return 0;
     }
@@ -57,37 +56,24 @@ fn wide16(x: u16) -> usize
     x as usize
 }
 
-pub fn count8(b: &[u8], at: usize) -> usize
+pub(crate) fn count8(b: &[u8], at: usize) -> usize
     ensures { λ r. ⌜ r ≤ 255 ⌝ }
 {
     wide8(number8(b, at))
 }
 
-pub fn count16(b: &[u8], at: usize) -> usize
+pub(crate) fn count16(b: &[u8], at: usize) -> usize
     ensures { λ r. ⌜ r ≤ 65535 ⌝ }
 {
     wide16(number16(b, at))
 }
 
-pub fn count32(b: &[u8], at: usize) -> usize {
+pub(crate) fn count32(b: &[u8], at: usize) -> usize {
     number32(b, at) as usize
 }
 
-// The first n bytes of an output, made such that none of an earlier answer is left.
-pub fn spoil(out: &mut [u8], n: usize) {
-    let end = out.len();
-    let mut i = 0;
-    while i < end {
-        if n <= i {
-            return;
-        }
-        out[i] = 165;
-        i += 1;
-    }
-}
-
 // Whether an output begins with n bytes of the list.
-pub fn same_bytes(out: &[u8], b: &[u8], from: usize, n: usize) -> bool {
+pub(crate) fn same_bytes(out: &[u8], b: &[u8], from: usize, n: usize) -> bool {
     if out.len() < n {
         return false;
     }
@@ -165,7 +151,7 @@ fn item(rows: &mut [u64], s: Stand, gap: u16, times: u16) -> Stand {
 }
 
 // Puts the rows of so many items in front, and answers how many there are.
-pub fn rows_of(b: &[u8], from: usize, items: usize, base: u64, rows: &mut [u64]) -> usize
+pub(crate) fn rows_of(b: &[u8], from: usize, items: usize, base: u64, rows: &mut [u64]) -> usize
     requires { ⌜ (from ≤ 1048576) × (items ≤ 65535) ⌝ }
 {
     let mut at: usize = 0;
@@ -183,7 +169,7 @@ pub fn rows_of(b: &[u8], from: usize, items: usize, base: u64, rows: &mut [u64])
 }
 
 // Puts the rows in front as ordinals, as far as each fits.
-pub fn narrow(rows: &[u64], ordinals: &mut [u16]) -> bool {
+pub(crate) fn narrow(rows: &[u64], ordinals: &mut [u16]) -> bool {
     let end = ordinals.len();
     let n = rows.len();
     let mut i = 0;

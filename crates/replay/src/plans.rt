@@ -9,7 +9,10 @@ use crate::list::number32;
 use crate::list::number64;
 use crate::list::rows_of;
 use crate::list::same_bytes;
-use crate::list::spoil;
+use crate::spaces::ordinal_space;
+use crate::spaces::out_space;
+use crate::spaces::row_space;
+use crate::spaces::work_space;
 use plan::Body;
 use plan::Planned;
 ghost use Prim.Native.Nat.{_≤_};
@@ -27,12 +30,12 @@ fn body_at(b: &[u8]) -> usize
 }
 
 // Whether the case has the bytes that its numbers say.
-pub fn is_whole(b: &[u8]) -> bool {
+fn is_whole(b: &[u8]) -> bool {
     body_at(b) + count16(b, 26) == b.len()
 }
 
 // The third byte of the body, which tells a trimmed bitmap.
-pub fn flag(b: &[u8]) -> u8 {
+pub(crate) fn flag(b: &[u8]) -> u8 {
     number8(b, body_at(b) + 2)
 }
 
@@ -77,34 +80,29 @@ fn seeds_of(b: &[u8], from: usize, n: usize, seeds: &mut [u16])
     }
 }
 
-fn ask_rows(b: &[u8], rows: &[u64], seeds: &[u16], work: &mut [u32], out: &mut [u8]) -> bool {
-    spoil(out, count16(b, 26));
+fn ask_rows(b: &[u8], rows: &[u64], seeds: &[u16]) -> bool {
+    let mut work = work_space();
+    let mut out = out_space();
     let p = plan::plan_rows(
         number64(b, 0),
         number64(b, 8),
         rows,
         seeds,
         count32(b, 16),
-        work,
-        out,
+        &mut work,
+        &mut out,
     );
-    same_plan(b, p, out)
+    same_plan(b, p, &out)
 }
 
-// Whether the rows are planned as the list says. `ends` is room for the seed ends.
-pub fn same_rows(
-    b: &[u8],
-    rows: &[u64],
-    ends: &mut [u16],
-    work: &mut [u32],
-    out: &mut [u8],
-) -> bool {
+// Whether the rows are planned as the list says.
+fn same_rows(b: &[u8], rows: &[u64]) -> bool {
     let k = count16(b, 22);
-    if ends.len() < k {
-        return false;
-    }
+    let mut space = ordinal_space();
+    let ends: &mut [u16] = &mut space;
     seeds_of(b, seeds_at(b), k, ends);
-    ask_rows(b, rows, &ends[0..k], work, out)
+    let seeds = &ends[..];
+    ask_rows(b, rows, &seeds[0..k])
 }
 
 // ---- the same rows as ordinals, where they begin at 0 and have no seeds
@@ -120,38 +118,55 @@ fn of_ordinals(b: &[u8]) -> bool {
     count16(b, 22) == 0
 }
 
-fn ask_ordinals(b: &[u8], ordinals: &[u16], work: &mut [u32], out: &mut [u8]) -> bool {
-    spoil(out, count16(b, 26));
-    let p = plan::plan_ordinals(number16(b, 8), ordinals, count32(b, 16), work, out);
-    same_plan(b, p, out)
+fn ask_ordinals(b: &[u8], ordinals: &[u16]) -> bool {
+    let mut work = work_space();
+    let mut out = out_space();
+    let p = plan::plan_ordinals(
+        number16(b, 8),
+        ordinals,
+        count32(b, 16),
+        &mut work,
+        &mut out,
+    );
+    same_plan(b, p, &out)
 }
 
 // 0: no case of ordinals; 1: planned as the list says; 2: not so.
-pub fn same_ordinals(
-    b: &[u8],
-    rows: &[u64],
-    ordinals: &mut [u16],
-    work: &mut [u32],
-    out: &mut [u8],
-) -> u8 {
-    if !of_ordinals(b) {
-        return 0;
-    }
+fn same_ordinals(b: &[u8], rows: &[u64]) -> u8 {
+    let mut space = ordinal_space();
+    let ordinals: &mut [u16] = &mut space;
     if !narrow(rows, ordinals) {
         return 0;
     }
     let n = rows.len();
-    if ordinals.len() < n {
+    let all = &ordinals[..];
+    if all.len() < n {
         return 0;
     }
-    if ask_ordinals(b, &ordinals[0..n], work, out) {
-        1
-    } else {
-        2
-    }
+    if ask_ordinals(b, &all[0..n]) { 1 } else { 2 }
 }
 
-// The rows of the case, in front.
-pub fn planned_rows(b: &[u8], rows: &mut [u64]) -> usize {
-    rows_of(b, 34, count16(b, 20), number64(b, 0), rows)
+fn same(b: &[u8], rows: &[u64]) -> u8 {
+    if !same_rows(b, rows) {
+        return 2;
+    }
+    if of_ordinals(b) {
+        return same_ordinals(b, rows);
+    }
+    0
+}
+
+// Runs the case: 0 as the list says, 1 the same and so as ordinals too, 2 otherwise, 3 the case is broken.
+pub(crate) fn run(b: &[u8]) -> u8 {
+    if !is_whole(b) {
+        return 3;
+    }
+    let mut space = row_space();
+    let rows: &mut [u64] = &mut space;
+    let n = rows_of(b, 34, count16(b, 20), number64(b, 0), rows);
+    let all = &rows[..];
+    if all.len() < n {
+        return 3;
+    }
+    same(b, &all[0..n])
 }

@@ -11,11 +11,11 @@ use lib.ListN.{length, getD}
 use borrow.Author.Tests.{ltb-true, lt-ltb, le-leb, eqb-true, eq-eqb, ne-eqb, not-true, not-false}
 use Rattle.model.specs.Tests.{both, all}
 use Rattle.model.proofs.Tests.{same-test, both-true, both-left, both-right, both-first, all-at, all-from, all-step, pick-true, pick-false}
-use Rattle.model.proofs.Windows.{windows-level}
 use Rattle.gather.specs.Gather.{upAt, rises}
 use Rattle.gather.specs.Seeds.{startOf, seedAt, seedsFit, windows}
 use Rattle.model.proofs.Counted.{and-both}
 use Rattle.planning.specs.Refusals.{givenFit, endsOf}
+use Rattle.planning.proofs.Dividing.{climbs, seed-fits, rises-next}
 use Rattle.seeds.specs.Ends.{endsRise, near, nearAt}
 
 -- a test by its answer
@@ -29,31 +29,6 @@ missed {t} e f = sym e ∙ not-true t f
 pub record Following (n : ℕ) (ends : List ℕ) : Type 0 where
   pub some : (i : ℕ) → i < length ends → startOf ends i < getD ends i 0
   pub inside : (i : ℕ) → i < length ends → getD ends i 0 ≤ n
-
--- as many seeds as rows at most
-module _ {n : ℕ} {ends : List ℕ} (f : Following n ends) where
-  reach : (i : ℕ) → i ≤ length ends → i ≤ startOf ends i
-  unfolding startOf
-  reach zero h = omega arith
-  reach (suc i) h = omega (arith, reach i (omega arith), f .some i h)
-
-  room : (i : ℕ) → i ≤ length ends → i ≤ n
-  unfolding startOf
-  room zero h = omega arith
-  room (suc i) h = omega (arith, reach (suc i) h, f .inside i h)
-
-  pub following-few : length ends ≤ n
-  following-few = room (length ends) (omega arith)
-
--- ---- a list that rises
-
-module _ (xs : List ℕ) (e : rises xs ≡ true) where
-  pub rises-next : (i : ℕ) → suc i < length xs → getD xs i 0 < getD xs (suc i) 0
-  unfolding rises upAt
-  rises-next i h = let up : getD xs i 0 < getD xs (i + 1) 0 = ltb-true _ _ (all-at (upAt xs) (length xs - 1) e i (omega arith)) in rw (add-one i) at up
-
-  pub rises-level : (i j : ℕ) → i ≤ j → j < length xs → getD xs i 0 ≤ getD xs j 0
-  rises-level = let at : ℕ → ℕ = λ k. getD xs k 0 in windows-level at at (length xs) (λ k l. omega arith) (λ k l. omega (arith, rises-next k l))
 
 -- one turn of a loop that keeps a flag
 pub flag-step : (t : ℕ → Bool) (i : ℕ) (ok : Bool) → ok ≡ all t i → (ok && t i) ≡ all t (i + 1)
@@ -73,10 +48,12 @@ module _ (n : ℕ) (ends : List ℕ) (e : endsRise n ends ≡ true) where
   end-some : (i : ℕ) → i < length ends → startOf ends i < getD ends i 0
   unfolding startOf endsRise
   end-some zero h = ltb-true _ _ (both-left _ _ (both-left _ _ e))
-  end-some (suc i) h = rises-next ends ends-rises i h
+  end-some (suc i) h = rises-next ends ends-rises i (omega arith)
 
   pub rise-following : Following n ends
-  rise-following = record { some = end-some; inside = λ i h. omega (arith, last-end, rises-level ends ends-rises i (length ends - 1) (omega arith) (omega arith)) }
+  rise-following =
+      let up = climbs (λ (k : ℕ). getD ends k 0) (length ends - 1) (rises-next ends ends-rises) in
+      record { some = end-some; inside = λ i h. omega (arith, last-end, up i (length ends - 1) (omega arith) (omega arith)) }
 
 -- as it is computed
 pub ends-tested : (n : ℕ) (ends : List ℕ) (last : ℕ) (r : Bool) → last ≡ getD ends (length ends - 1) 0 → r ≡ rises ends → (ltb 0 (getD ends 0 0) && r && eqb last n) ≡ endsRise n ends
@@ -119,19 +96,15 @@ module _ (rows ends : List ℕ) where
 
 module _ (rows ends : List ℕ) (some : 1 ≤ length ends) where
   module _ (e : seedsFit rows ends ≡ true) where
-    fit-at : (i : ℕ) → i < length ends → seedAt rows ends i ≡ true
-    unfolding seedsFit
-    fit-at i h = all-at (seedAt rows ends) (length ends) (both-left _ _ e) i h
-
     fit-rises : endsRise (length rows) ends ≡ true
     unfolding endsRise seedsFit seedAt startOf rises upAt
     fit-rises =
-        let up : (i : ℕ) → i < length ends - 1 → upAt ends i ≡ true = λ i h. rw add-one (both-left _ _ (fit-at (suc i) (omega arith))) in
-        both-true _ _ (both-true _ _ (both-left _ _ (fit-at 0 some)) (all-from (upAt ends) (length ends - 1) up)) (both-right _ _ e)
+        let up : (i : ℕ) → i < length ends - 1 → upAt ends i ≡ true = λ i h. rw add-one (both-left _ _ (seed-fits rows ends e (suc i) (omega arith))) in
+        both-true _ _ (both-true _ _ (both-left _ _ (seed-fits rows ends e 0 some)) (all-from (upAt ends) (length ends - 1) up)) (both-right _ _ e)
 
     fit-near : all (nearAt rows ends) (length ends) ≡ true
     unfolding seedAt nearAt near
-    fit-near = all-from (nearAt rows ends) (length ends) (λ i h. both-right _ _ (fit-at i h))
+    fit-near = all-from (nearAt rows ends) (length ends) (λ i h. both-right _ _ (seed-fits rows ends e i h))
 
   parts-fit : both (endsRise (length rows) ends) (all (nearAt rows ends) (length ends)) ≡ true → seedsFit rows ends ≡ true
   unfolding seedsFit seedAt nearAt near

@@ -1,25 +1,22 @@
--- The number of the first test that is not met, test by test, and what passing them all says.
+-- The number of the first test that is not met, test by test. What passing them all says is `early-divided` in planning.
 -- Assumes nothing.
 use mathlib.Core.Path.{_≡_, sym, _∙_}
 use mathlib.Core.Bool.{Bool, true, false, _&&_}
 use mathlib.Core.List.{List}
-use Prim.Native.Nat.{ℕ, _+_, _-_, _*_, _<_, _≤_}
+use Prim.Native.Nat.{ℕ, _-_, _*_, _<_, _≤_}
 use native.Mathlib.Omega.{arith}
 use lib.Dec.{leb, ltb}
 use lib.ListN.{length, getD}
-use borrow.Author.Tests.{leb-true, ltb-true, le-leb, le-ltb, lt-ltb}
+use borrow.Author.Tests.{leb-true, le-leb, le-ltb, lt-ltb}
 use Rattle.model.specs.Tests.{pick, both}
 use Rattle.model.proofs.Tests.{both-true, both-left, both-right, both-first, strictly}
-use Rattle.model.proofs.Rising.{rising-tests}
-use Rattle.cost.specs.Rows.{Covered}
 use Rattle.gather.specs.Gather.{rises}
 use Rattle.model.proofs.Counted.{and-both}
 use Rattle.gather.proofs.Admitted.{passes}
 use Rattle.planning.specs.Refusals.{coverageFits, countFits, rowsFit, givenFit, endsOf, roomFits, earlyNumber}
+use Rattle.planning.proofs.Dividing.{fit-divides, divides-few, ends-fit}
 use Rattle.seeds.specs.declared.Early.{Early}
 use Rattle.seeds.specs.Judged.{Judged}
-use Rattle.seeds.proofs.Ends.{rises-next, rises-level, following-few}
-use Rattle.seeds.proofs.Windows.{ends-following}
 
 -- ---- tests as they are computed
 
@@ -48,7 +45,9 @@ count-some rows e = (leb-true _ _ (both-left _ _ e), leb-true _ _ (both-right _ 
 
 -- as many seeds as a number of 16 bits can count
 pub seeds-few : (rows seeds : List ℕ) → countFits rows ≡ true → givenFit rows seeds ≡ true → length (endsOf rows seeds) ≤ 65535
-seeds-few rows seeds e t = let n = count-some rows e in omega (arith, following-few (ends-following rows seeds (n .0) t))
+seeds-few rows seeds e t =
+    let n = count-some rows e in
+    omega (arith, divides-few (length rows) (endsOf rows seeds) (fit-divides rows (endsOf rows seeds) (ends-fit rows seeds (n .0) (n .1) t) (n .0)))
 
 -- ---- the first test that is not met
 
@@ -79,50 +78,3 @@ module _ (start end : ℕ) (rows seeds : List ℕ) (words : ℕ) (r : Early) whe
         pub last-judges : givenFit rows seeds ≡ true → (n : ℕ) → n ≡ length (endsOf rows seeds) → r .number ≡ pick (leb (n * 24) words) 0 5 → r .seeds ≡ n → Judged start end rows seeds words r
         unfolding earlyNumber roomFits pick
         last-judges t4 n q e s = record { number = e ∙ rw (t1, t2, t3, t4, q); count = λ z. s ∙ q }
-
--- ---- what passing them all says
-
-pub record Passed (start end : ℕ) (rows seeds : List ℕ) (words : ℕ) : Type 0 where
-  pub span : start < end
-  pub wide : end - start ≤ 4294967295
-  pub covered : Covered start rows
-  pub below : getD rows (length rows - 1) 0 < end
-  pub few : length rows ≤ 65535
-  pub fits : givenFit rows seeds ≡ true
-  pub room : length (endsOf rows seeds) * 24 ≤ words
-
-rows-covered : (start end : ℕ) (rows : List ℕ) → start < end → end - start ≤ 4294967295 → 1 ≤ length rows → rowsFit start end rows ≡ true → Covered start rows
-unfolding rowsFit
-rows-covered start end rows l w some e =
-    let r = both-right _ _ e in
-    let low : start ≤ getD rows 0 0 = leb-true _ _ (both-left _ _ (both-left _ _ e)) in
-    let high : getD rows (length rows - 1) 0 < end = ltb-true _ _ (both-right _ _ (both-left _ _ e)) in
-    record {
-      some = some;
-      rising =
-          rising-tests start (start + 4294967295) rows
-          (λ i h. omega (arith, rises-level rows r 0 i (omega arith) h))
-          (λ i h. omega (arith, rises-level rows r i (length rows - 1) (omega arith) (omega arith)))
-          (rises-next rows r);
-    }
-
-pub early-passed : (start end : ℕ) (rows seeds : List ℕ) (words : ℕ) → earlyNumber start end rows seeds words ≡ 0 → Passed start end rows seeds words
-unfolding earlyNumber coverageFits rowsFit roomFits
-early-passed start end rows seeds words e =
-    let p1 = passes _ 1 _ (λ z. omega arith) e in
-    let p2 = passes _ 2 _ (λ z. omega arith) (p1 .1) in
-    let p3 = passes _ 3 _ (λ z. omega arith) (p2 .1) in
-    let p4 = passes _ 4 _ (λ z. omega arith) (p3 .1) in
-    let p5 = passes _ 5 _ (λ z. omega arith) (p4 .1) in
-    let l = ltb-true _ _ (both-left _ _ (p1 .0)) in
-    let w = leb-true _ _ (both-right _ _ (p1 .0)) in
-    let n = count-some rows (p2 .0) in
-    record {
-      span = l;
-      wide = w;
-      covered = rows-covered start end rows l w (n .0) (p3 .0);
-      below = ltb-true _ _ (both-right _ _ (both-left _ _ (p3 .0)));
-      few = n .1;
-      fits = p4 .0;
-      room = leb-true _ _ (p5 .0);
-    }

@@ -1,15 +1,15 @@
 -- The seeds one after the other: where each starts and ends, its part of the rows, and its statistics in its record.
 -- Assumes nothing.
-use mathlib.Core.Path.{_≡_, refl, sym, ap, _∙_}
+use mathlib.Core.Path.{_≡_, refl, ap, _∙_}
 use mathlib.Core.Logic.{⊎-elim}
 use mathlib.Core.List.{List}
 use Prim.Native.Nat.{ℕ, _+_, _-_, _*_, _<_, _≤_}
 use native.Mathlib.Numerals.{add-one}
 use native.Mathlib.Omega.{arith}
 use lib.ListN.{length, getD, take, drop, length-append, length-take, length-drop}
-use Rattle.model.specs.Lists.{positionsOf}
+use Rattle.model.specs.Lists.{positionsOf, Rising, none, more}
 use Rattle.model.proofs.Tests.{strictly, same-or-not, last-or-before}
-use Rattle.model.proofs.Rising.{rising-take, rising-drop}
+use Rattle.model.proofs.Rising.{rising-take, rising-drop, rising-wider}
 use Rattle.cost.specs.declared.Stats.{Stats}
 use Rattle.cost.specs.Statistics.{statsOf}
 use Rattle.cost.specs.Rows.{Covered}
@@ -24,7 +24,6 @@ use Rattle.seeds.specs.Ends.{Window}
 use Rattle.seeds.specs.Placed.{Seeded, Placed, Begun, Ranged}
 use Rattle.seeds.proofs.Ends.{Following, none-ends, given-ends}
 use Rattle.seeds.proofs.Windows.{windows-each, window-only, ends-following}
-use Rattle.seeds.proofs.Judging.{Passed}
 
 -- ---- a part of rows
 
@@ -110,16 +109,3 @@ module _ (start : ℕ) (rows seeds : List ℕ) (n : ℕ) (before : List ℕ) (s 
 
   pub placing-end : (w : List ℕ) (a i : ℕ) → Placing start rows seeds n before w a i → n ≤ i → Placed start rows seeds n before w
   placing-end w a i k h = let l = k .within in let e : i ≡ n = omega arith in rw e at (k .so)
-
--- ---- what the tests before merging leave is what is asked for: 24 words a seed hold a record for each cut
-
-pub ends-some : (rows seeds : List ℕ) → 1 ≤ length (endsOf rows seeds)
-unfolding windows
-ends-some rows seeds =
-    ⊎-elim
-    (λ z. rw (none-ends rows seeds z, length-append) (omega arith))
-    (λ nz. rw (given-ends rows seeds nz) (strictly (omega arith) (λ (e : 0 ≡ length seeds). nz (sym e))))
-    (same-or-not (length seeds) 0)
-
-pub passed-seeded : {start end : ℕ} {rows seeds : List ℕ} {words : ℕ} → Passed start end rows seeds words → (n : ℕ) (work : List ℕ) → n ≡ length (endsOf rows seeds) → n * 24 ≤ length work → Seeded start rows seeds n work
-passed-seeded {rows = rows} {seeds = seeds} p n work e h = record { covered = p .covered; fits = p .fits; number = e; room = omega (arith, ends-some rows seeds) }

@@ -1,19 +1,12 @@
 -- `plan::plan_rows` meets its contract: the plan is made in the words that the seeds need, and they are zeroed.
 -- Assumes nothing.
-use mathlib.Core.Path.{_≡_, refl, sym, ap, _∙_}
-use mathlib.Core.List.{List, _++_}
-use Prim.Native.Nat.{ℕ, _*_, _-_, _≤_}
-use native.Mathlib.Nat.{sub-zero}
-use native.Mathlib.Omega.{arith}
-use lib.ListN.{length, take, drop, replicate, length-append, length-replicate}
+use mathlib.Core.Path.{refl}
+use mathlib.Core.List.{List}
+use Prim.Native.Nat.{ℕ}
 use denote.Ref.{now}
 use borrow.Author.Needs.{needs}
-use borrow.Rule.Slice.PartMut.{postOf, post-is, mid-len}
-use Rattle.model.specs.Answers.{over}
-use Rattle.planning.specs.Refusals.{endsOf, earlyNumber}
-use Rattle.planning.proofs.Dividing.{early-divided}
 use Rattle.plan.specs.Plans.{plannedOf}
-use Rattle.plan.proofs.Answers.{early-answer, early-out, early-work, cut-early, cut-answer, cut-out, over-back, cleared}
+use Rattle.plan.proofs.Steps.{early-refused, seeds-few, Lent, lent, lent-inside, lent-tested, back-room, back-planned}
 use Rattle.plan.proofs.plan_rows.Statement.{statement}
 use Rattle.plan.proofs.plan_rows.Tie as tie
 
@@ -23,38 +16,13 @@ judged e = e .before .before
 abbrev entry : tie.Else1 → tie.Start
 entry e = judged e .before .before .before .before .before
 
-passed : (e : tie.Else1) → earlyNumber (entry e .args .start) (entry e .args .end) (now (entry e .args .rows)) (now (entry e .args .seeds)) (length (now (entry e .args .work))) ≡ 0
-passed e = sym (judged e .rows-early .ensures .number) ∙ e .if1 .left
+-- the words that are lent, and what comes back of them
+words : (w : tie.After-words-for)
+    → Lent (entry (w .before) .args .start) (entry (w .before) .args .end) (now (entry (w .before) .args .rows)) (now (entry (w .before) .args .seeds)) (now (entry (w .before) .args .work)) (judged (w .before) .rows-early .result .seeds) (w .words-for .result)
+words w = lent (judged (w .before) .rows-early .ensures) (w .before .if1 .left) (w .words-for .ensures)
 
-counted : (e : tie.Else1) → judged e .rows-early .result .seeds ≡ length (endsOf (now (entry e .args .rows)) (now (entry e .args .seeds)))
-counted e = judged e .rows-early .ensures .count (e .if1 .left)
-
--- the words that are lent
-enough : (w : tie.After-words-for) → (w .words-for .result ≡ length (endsOf (now (entry (w .before) .args .rows)) (now (entry (w .before) .args .seeds))) * 24) × (w .words-for .result ≤ length (now (entry (w .before) .args .work)))
-enough w =
-    let e = w .before in
-    let d = early-divided _ _ _ _ _ (passed e) in
-    let n : w .words-for .result ≡ length (endsOf (now (entry e .args .rows)) (now (entry e .args .seeds))) * 24 = w .words-for .ensures ∙ ap (λ (k : ℕ). k * 24) (counted e) in
-    (n, omega (arith, n, d .room))
-
--- in which the early tests are passed too
-within : (w : tie.After-words-for) → earlyNumber (entry (w .before) .args .start) (entry (w .before) .args .end) (now (entry (w .before) .args .rows)) (now (entry (w .before) .args .seeds)) (length (take (w .words-for .result - 0) (now (entry (w .before) .args .work)))) ≡ 0
-within w =
-    let k = enough w in
-    let m = mid-len 0 (w .words-for .result) (now (entry (w .before) .args .work)) (k .1) in
-    cut-early _ _ _ _ _ (passed (w .before)) _ (omega (arith, k .0, m))
-
--- what comes back of them
 abbrev back : tie.After-planned-rows → List ℕ
 back p = p .planned-rows .last .1 .1 .1 .1 .1 .1 .0
-
-abbrev lent : tie.After-planned-rows → tie.After-words-for
-lent p = p .before .before .before
-
-back-length : (p : tie.After-planned-rows) → length (back p) ≡ lent p .words-for .result
-back-length p =
-    let w = lent p in
-    p .planned-rows .kept .1 .1 .1 .1 .1 .1 .0 ∙ mid-len 0 (w .words-for .result) (now (entry (w .before) .args .work)) (enough w .1) ∙ sub-zero (w .words-for .result)
 
 pub plan-rows-spec : {M : Type 1} → statement M
 unfolding plannedOf
@@ -62,34 +30,18 @@ plan-rows-spec =
     tie.close
     (tie.spec
     (λ c κs. search needs)
-    (λ c.
-    let s = c .before .before .before .before .before .before .before in
-    let j = c .before .before .rows-early .ensures .number in
-    (early-answer _ _ _ _ _ _ _ (now (s .args .out)) (now (s .args .work)) j (c .if1 .taken), (early-out _ _ _ _ _ _ _ (now (s .args .out)) (now (s .args .work)) j (c .if1 .taken), early-work _ _ _ _ (s .args .limit) _ _ (now (s .args .out)) (now (s .args .work)) j (c .if1 .taken) refl)))
-    (λ c κs. omega (arith, counted c, early-divided _ _ _ _ _ (passed c) .few-seeds))
+    (λ c. early-refused (c .before .before .rows-early .ensures) _ _ _ refl (c .if1 .taken))
+    (λ c κs. seeds-few (judged c .rows-early .ensures) (c .if1 .left))
     (λ c. search needs)
     (λ c. search needs)
-    (λ c. enough c .1)
-    (λ c κs. (within (c .before .before), counted (c .before .before .before)))
+    (λ c. lent-inside (words c))
+    (λ c κs. lent-tested (words (c .before .before)))
     (λ c κs.
     let p = c .before .before .before .before .before in
-    simp length-append (omega (arith, back-length p, lent p .words-for .ensures)))
+    back-room (words (p .before .before .before)) (back p) (p .planned-rows .kept .1 .1 .1 .1 .1 .1 .0) _)
     (λ c. search needs)
     (λ c. search needs)
     (λ c.
     let k = c .before .before in
     let p = k .before .before .before .before .before .before in
-    let w = lent p in
-    let s = entry (w .before) in
-    let ok = passed (w .before) in
-    let v = w .words-for .result in
-    let work = now (s .args .work) in
-    let zeros : List ℕ = replicate (judged (w .before) .rows-early .result .seeds * 24) 0 in
-    let size : length zeros ≡ v = length-replicate _ 0 ∙ sym (w .words-for .ensures) in
-    let rest : postOf 0 (v - 0) work ≡ drop v work = post-is 0 v work (omega arith) in (
-      p .planned-rows .ensures .0 ∙ cut-answer _ _ _ _ _ ok _ (within w) _ (now (s .args .out)),
-      (
-        p .planned-rows .ensures .1 ∙ cut-out _ _ _ _ _ ok _ (within w) _ (now (s .args .out)),
-        k .clear .ensures ∙ ap (λ (l : List ℕ). over zeros (back p ++ l)) rest ∙ over-back zeros (back p) work v size (back-length p) ∙ ap (λ (n : ℕ). over (replicate (n * 24) 0) work) (counted (w .before)) ∙ cleared _ _ _ _ (s .args .limit) _ work refl ok,
-      ),
-    )))
+    back-planned (words (p .before .before .before)) (back p) (p .planned-rows .kept .1 .1 .1 .1 .1 .1 .0) _ _ (p .planned-rows .ensures .0) (p .planned-rows .ensures .1) (k .clear .ensures)))

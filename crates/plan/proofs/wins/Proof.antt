@@ -1,7 +1,6 @@
 -- `plan::wins` meets its contract: the places before the one that decides are equal, and by order a segmented body is below none.
 -- Assumes nothing.
 use mathlib.Core.Path.{sym, _∙_}
-use Rattle.cost.specs.Forms.{lex}
 use Rattle.cost.proofs.Choices.{lex-same, lex-differ, lex-one}
 use Rattle.planning.specs.Bodies.{choiceKey}
 use Rattle.plan.proofs.Choice.{order-last}

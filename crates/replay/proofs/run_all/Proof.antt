@@ -8,10 +8,10 @@ use Rattle.replay.proofs.run_all.Statement.{statement}
 use Rattle.replay.proofs.run_all.Tie as tie
 
 abbrev Inv-loop : tie.InvT-loop
-Inv-loop list rows₀ ordinals₀ work₀ out₀ walked₀ counts₀ at₀ k₀ rows ordinals work out walked counts at k = (k ≤ at) × (length rows ≡ length rows₀) × (length ordinals ≡ length ordinals₀) × (length work ≡ length work₀) × (length out ≡ length out₀) × (length walked ≡ length walked₀) × (length counts ≡ length counts₀)
+Inv-loop list counts₀ at₀ k₀ counts at k = (k ≤ at) × (length counts ≡ length counts₀)
 
 abbrev μ-loop : tie.MeasureT-loop
-μ-loop list rows₀ ordinals₀ work₀ out₀ walked₀ counts₀ at₀ k₀ rows ordinals work out walked counts at k = length list - at
+μ-loop list counts₀ at₀ k₀ counts at k = length list - at
 
 pub run-all-spec : {M : Type 1} → statement M
 run-all-spec =
@@ -23,17 +23,7 @@ run-all-spec =
     (λ c κs. search needs)
     (λ c. search needs)
     (λ c. search needs)
-    (λ c. search needs)
-    (λ c. search needs)
-    (λ c. search needs)
-    (λ c. search needs)
-    (λ c. search needs)
     (λ c κs. search needs)
-    (λ c. search needs)
-    (λ c. search needs)
-    (λ c. search needs)
-    (λ c. search needs)
-    (λ c. search needs)
     (λ c. search needs)
     (λ c. search needs)
     (λ c. search needs)

@@ -2,7 +2,6 @@
 -- Assumes nothing.
 use mathlib.Core.Path.{refl}
 use Rattle.pelisafu.specs.Shown.{valueAt, shownContained}
-use borrow.Author.Needs.{needs}
 use Rattle.pelisafu.proofs.deletions.absent.Statement.{statement}
 use Rattle.pelisafu.proofs.deletions.absent.Tie as tie
 

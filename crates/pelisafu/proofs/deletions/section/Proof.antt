@@ -1,7 +1,6 @@
 -- `pelisafu::deletions::section` meets its contract.
 -- Assumes nothing.
 use mathlib.Core.Path.{refl}
-use borrow.Author.Needs.{needs}
 use Rattle.pelisafu.proofs.deletions.section.Statement.{statement}
 use Rattle.pelisafu.proofs.deletions.section.Tie as tie
 

@@ -1,7 +1,6 @@
 -- `pelisafu::plans::of_planned` meets its contract.
 -- Assumes nothing.
 use mathlib.Core.Path.{sym, ap}
-use lib.ListN.{getD}
 use Rattle.plan.specs.declared.Planned.{Planned}
 use Rattle.plan.specs.Plans.{valuesOf, plannedOf}
 use Rattle.pelisafu.specs.Shown.{valueAt, shownPlan}
