@@ -3,18 +3,19 @@
 use mathlib.Core.Path.{_≡_, refl, sym, ap, ap₂, _∙_}
 use mathlib.Core.Logic.{⊎-elim}
 use mathlib.Core.List.{List, [], _∷_, _++_, append-nil, append-assoc}
-use Prim.Native.Nat.{ℕ, zero, suc, _+_, _-_, _<_, _≤_}
+use Prim.Native.Nat.{ℕ, zero, suc, _+_, _-_, _<_, _≤_, min}
 use native.Mathlib.Nat.{le-trans}
 use native.Mathlib.Omega.{arith}
 use lib.ListN.{length, getD, length-append}
 use lib.Dec.{eqb}
 use borrow.Author.Tests.{eq-eqb, ne-eqb}
 use Rattle.model.specs.Tests.{pick, tabulate, flat, total}
-use Rattle.model.specs.Lists.{Rising, none, more, range, Run, run, spread, onto, runsOf, Apart, stop, next}
+use Rattle.model.specs.Lists.{Rising, none, more, below, has, range, Run, run, spread, onto, runsOf, Apart, stop, next}
 use Rattle.model.proofs.Tests.{either, pick-true, pick-false, same-or-not, strictly}
 use Rattle.model.proofs.Sums.{total-front}
 use Rattle.model.proofs.Rising.{rising-append, rising-wider}
-use Rattle.model.proofs.Ranges.{range-rising, length-range}
+use Rattle.model.proofs.Ranges.{range-rising, below-range, length-range, getD-range}
+use Rattle.model.proofs.Pieces.{Pieces, pieces-place, pieces-select}
 
 -- ---- a position put in front
 
@@ -182,3 +183,16 @@ sizes-total (r ∷ rs) = total-front (sizes (r ∷ rs)) (length rs) ∙ rw (size
 pub apart-behind : {a b c : ℕ} {r : Run} {rs : List Run} → Apart a c rs → a ≤ r .start → c < r .start → 1 ≤ r .size → r .start + r .size ≤ b → Apart a b (rs ++ (r ∷ []))
 apart-behind stop l h f e = next l f e stop
 apart-behind {b = b} (next p q o t) l h f e = next {b = b} p q (omega arith) (apart-behind t (omega arith) h f e)
+
+-- place and select under spread: run i, whose window holds p or comes last before it, is asked
+module _ (f : ℕ → Run) (n a b : ℕ) (s : Pieces (λ (i : ℕ). range (f i .start) (f i .size)) (λ (i : ℕ). f i .start) (λ (i : ℕ). f i .start + f i .size) n a b) where
+  pub spread-place : (p i : ℕ) → i < n → f i .start ≤ p → ((j : ℕ) → i < j → j < n → p < f j .start)
+      → (below (spread (tabulate f n)) p ≡ length (spread (tabulate f i)) + min (p - f i .start) (f i .size)) × (has (spread (tabulate f n)) p ≡ has (range (f i .start) (f i .size)) p)
+  spread-place p i h l u =
+      let w = pieces-place n s p i h l u in
+      rw (spread-tabulate f n, spread-tabulate f i) (w .0 ∙ rw (below-range (f i .start) (f i .size) p), w .1)
+
+pub spread-select : (f : ℕ → Run) (n i k : ℕ) → i < n → k < f i .size → getD (spread (tabulate f n)) (length (spread (tabulate f i)) + k) 0 ≡ f i .start + k
+spread-select f n i k h l =
+    rw (spread-tabulate f n, spread-tabulate f i)
+    (pieces-select (λ (j : ℕ). range (f j .start) (f j .size)) n i k h (rw (length-range (f i .start) (f i .size)) l) ∙ getD-range (f i .start) (f i .size) k l)
