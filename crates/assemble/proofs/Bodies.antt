@@ -14,7 +14,7 @@ use Rattle.cost.specs.declared.Form.{Form}
 use Rattle.cost.specs.Statistics.{statsOf}
 use Rattle.cost.specs.Rows.{Covered}
 use Rattle.model.proofs.Runs.{runs-most}
-use Rattle.model.proofs.Positions.{length-positions, positions-rising}
+use Rattle.model.proofs.Positions.{length-positions}
 use Rattle.single.specs.Layout.{plainLayout, trimmedLayout, singleLayout}
 use Rattle.emit.specs.Written.{Written}
 use Rattle.planning.specs.Bodies.{segmentedLayout, layoutBy}

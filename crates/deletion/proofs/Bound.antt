@@ -13,7 +13,7 @@ use lib.ListN.{length}
 use borrow.Author.Tests.{le-leb}
 use Rattle.model.specs.Tests.{pick}
 use Rattle.model.specs.Answers.{Answer, refused}
-use Rattle.model.proofs.Tests.{either, pick-true, pick-false, pick-most, both-true}
+use Rattle.model.proofs.Tests.{either, pick-true, pick-false, both-true}
 use Rattle.bitmap.specs.Body.{bitmapLength}
 use Rattle.cost.specs.declared.Stats.{Stats}
 use Rattle.cost.specs.Forms.{itemsForm, bitmapForm, denseForm, always, plainOffers, trimmedOffers, wholeForm}

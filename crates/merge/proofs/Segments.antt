@@ -3,7 +3,7 @@
 use mathlib.Core.Path.{_≡_, refl, ap, _∙_}
 use mathlib.Core.Logic.{⊎-elim}
 use mathlib.Core.Bool.{Bool, true, false}
-use Prim.Native.Nat.{ℕ, zero, suc, _+_, _*_, _-_, _<_, _≤_}
+use Prim.Native.Nat.{ℕ, zero, suc, _+_, _-_, _<_, _≤_}
 use native.Mathlib.Nat.{add-zero, add-suc}
 use native.Mathlib.Numerals.{add-one}
 use native.Mathlib.Omega.{arith}
@@ -13,8 +13,8 @@ use Rattle.model.specs.Tests.{both, pick}
 use Rattle.model.proofs.Tests.{pick-most, both-left, both-right, both-true, both-first, either, never}
 use Rattle.cost.specs.declared.Stats.{Stats}
 use Rattle.cost.specs.Statistics.{Sound, Neighbours, joined, spanOf}
-use Rattle.cost.specs.Forms.{localForm, itemsForm, localOffers, payload}
-use Rattle.cost.proofs.Least.{local-short, least-first}
+use Rattle.cost.specs.Forms.{payload}
+use Rattle.cost.proofs.Least.{local-short}
 use Rattle.cost.proofs.Joining.{joined-sound}
 use Rattle.merge.specs.Rule.{counted, afterJoins, cutsFrom}
 use Rattle.merge.specs.Pairs.{admits, saves, totalFrom, segmentOf, Seeds}

@@ -4,7 +4,7 @@ use mathlib.Core.Bool.{Bool}
 use mathlib.Core.List.{List}
 use Prim.Native.Nat.{ℕ, zero, suc, _+_, _-_, _<_}
 use lib.Dec.{leb}
-use Rattle.model.specs.Tests.{both, pick}
+use Rattle.model.specs.Tests.{both}
 use Rattle.cost.specs.declared.Stats.{Stats}
 use Rattle.cost.specs.Statistics.{Sound, statsOf, joined, spanOf}
 use Rattle.cost.specs.Forms.{payload}

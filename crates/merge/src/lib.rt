@@ -6,7 +6,7 @@ ghost use mathlib.Core.Bool.{true};
 ghost use Prim.Native.Nat.{_+_, _*_, _-_, _<_, _≤_};
 ghost use lib.ListN.{length, replicate};
 ghost use Rattle.model.specs.Answers.{over};
-ghost use Rattle.cost.specs.Statistics.{Sound, Neighbours};
+ghost use Rattle.cost.specs.Statistics.{Neighbours};
 ghost use Rattle.queue.specs.Keys.{Heap};
 ghost use Rattle.merge.specs.Keys.{code, pairOf};
 ghost use Rattle.merge.specs.Links.{Cuts};

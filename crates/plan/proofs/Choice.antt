@@ -1,8 +1,7 @@
 -- By code order a segmented body is below no form.
 -- Assumes nothing.
-use mathlib.Core.Path.{_≡_, refl, sym, ap, _∙_}
+use mathlib.Core.Path.{_≡_, refl}
 use mathlib.Core.Bool.{false}
-use mathlib.Core.Logic.{⊎-elim}
 use mathlib.Core.List.{List}
 use Prim.Native.Nat.{ℕ, _-_, _≤_}
 use lib.ListN.{length}
@@ -10,7 +9,7 @@ use native.Mathlib.Omega.{arith}
 use lib.Dec.{leb, ltb}
 use borrow.Author.Tests.{le-ltb}
 use Rattle.model.specs.Tests.{pick}
-use Rattle.model.proofs.Tests.{either, pick-true, pick-false, pick-most}
+use Rattle.model.proofs.Tests.{pick-most}
 use Rattle.model.specs.Lists.{Rising}
 use Rattle.model.proofs.Rising.{rising-below}
 use Rattle.cost.specs.declared.Stats.{Stats}

@@ -5,7 +5,6 @@ use mathlib.Core.List.{List}
 use Prim.Native.Nat.{ℕ, suc, _+_, _-_, _*_, _<_, _≤_}
 use native.Mathlib.Omega.{arith}
 use lib.ListN.{length, length-append}
-use Rattle.cost.specs.declared.Form.{Form}
 use Rattle.model.specs.Lists.{positionsOf}
 use Rattle.cost.specs.Statistics.{statsOf}
 use Rattle.model.proofs.Positions.{length-positions}

@@ -12,7 +12,7 @@ use lib.ListN.{length, getD}
 use Rattle.model.specs.Tests.{flat}
 use Rattle.model.specs.Lists.{Rising, none, more, positionsOf}
 use Rattle.model.proofs.Rising.{rising-high, rising-wider}
-use Rattle.cost.specs.Statistics.{statsOf, joined, spanOf}
+use Rattle.cost.specs.Statistics.{statsOf, spanOf}
 use Rattle.cost.proofs.Joining.{stats-append}
 use Rattle.model.proofs.Positions.{length-positions, getD-positions}
 use Rattle.gather.specs.Seeds.{startOf, seedsFit}

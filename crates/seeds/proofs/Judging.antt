@@ -12,7 +12,6 @@ use Rattle.model.specs.Tests.{pick, both}
 use Rattle.model.proofs.Tests.{both-true, both-left, both-right, both-first, strictly}
 use Rattle.gather.specs.Gather.{rises}
 use Rattle.model.proofs.Counted.{and-both}
-use Rattle.gather.proofs.Admitted.{passes}
 use Rattle.planning.specs.Refusals.{coverageFits, countFits, rowsFit, givenFit, endsOf, roomFits, earlyNumber}
 use Rattle.planning.proofs.Dividing.{fit-divides, divides-few, ends-fit}
 use Rattle.seeds.specs.declared.Early.{Early}

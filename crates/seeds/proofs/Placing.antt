@@ -6,10 +6,10 @@ use mathlib.Core.List.{List}
 use Prim.Native.Nat.{ℕ, _+_, _-_, _*_, _<_, _≤_}
 use native.Mathlib.Numerals.{add-one}
 use native.Mathlib.Omega.{arith}
-use lib.ListN.{length, getD, take, drop, length-append, length-take, length-drop}
-use Rattle.model.specs.Lists.{positionsOf, Rising, none, more}
-use Rattle.model.proofs.Tests.{strictly, same-or-not, last-or-before}
-use Rattle.model.proofs.Rising.{rising-take, rising-drop, rising-wider}
+use lib.ListN.{length, getD, take, drop, length-take, length-drop}
+use Rattle.model.specs.Lists.{positionsOf}
+use Rattle.model.proofs.Tests.{last-or-before}
+use Rattle.model.proofs.Rising.{rising-take, rising-drop}
 use Rattle.cost.specs.declared.Stats.{Stats}
 use Rattle.cost.specs.Statistics.{statsOf}
 use Rattle.cost.specs.Rows.{Covered}

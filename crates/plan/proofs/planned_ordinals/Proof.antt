@@ -5,11 +5,6 @@ use Prim.Native.Nat.{ℕ}
 use borrow.Author.Needs.{needs}
 use lib.ListN.{length}
 use denote.Ref.{now}
-use Rattle.model.specs.Lists.{positionsOf}
-use Rattle.planning.specs.Refusals.{endsOf}
-use Rattle.planning.specs.Planning.{lateNumber}
-use Rattle.planning.proofs.Sound.{late-zero}
-use Rattle.planning.proofs.Dividing.{early-divided, early-given}
 use Rattle.plan.specs.Plans.{plannedOf}
 use Rattle.plan.proofs.Steps.{seedable, seeded, Chosen, chosen, late-refused, body-writable, body-small, body-planned}
 use Rattle.plan.proofs.planned_ordinals.Statement.{statement}
