@@ -12,6 +12,7 @@ mod id;
 #[path = "stand_ins/lwc.rs"]
 mod lwc;
 
+#[cfg(pelisafu)]
 mod bench;
 mod case;
 mod deletions;
@@ -28,7 +29,8 @@ mod record;
 use std::process::ExitCode;
 
 const USAGE: &str = "differential examples|merging|reading|largest|deletions|pelisafu|planning|\
-                     guarded|bench|record, or differential soak SECONDS SEED";
+                     guarded|record, or differential soak SECONDS SEED, or differential bench, \
+                     or differential bench ratios|growth|roaring|counts";
 
 fn main() -> ExitCode {
     index::original::hush_caught_panics();
@@ -47,7 +49,8 @@ fn main() -> ExitCode {
         "guarded" => pelisafu::compare_guarded(),
         #[cfg(pelisafu)]
         "soak" => soak(),
-        "bench" => bench::table(),
+        #[cfg(pelisafu)]
+        "bench" => bench::tables(std::env::args().nth(2).as_deref()),
         "record" => record::write(),
         _ => Err(format!("usage: {USAGE}")),
     };

@@ -63,7 +63,7 @@ pub(super) struct Section<'a>(
 
 // SAFETY, for every call: as in `calls`.
 /// The caller's limit has no place here.
-pub(super) fn plan_deletions(
+pub(crate) fn plan_deletions(
     row_count: u16,
     block_limit: usize,
     ordinals: &[u16],
