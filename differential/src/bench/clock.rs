@@ -8,9 +8,9 @@ use std::time::Duration;
 /// How long a sample is at least.
 const SAMPLE: Duration = Duration::from_micros(150);
 /// Samples go on until they have taken so long, but for no more and no fewer turns than these.
-const BUDGET: Duration = Duration::from_millis(40);
-const MOST: usize = 120;
-const FEWEST: usize = 3;
+const BUDGET: Duration = Duration::from_millis(20);
+const MOST: usize = 60;
+const FEWEST: usize = 2;
 
 /// The least times of one call in nanoseconds: Pelisafu's, and that of the other side.
 #[derive(Clone, Copy)]

@@ -6,7 +6,7 @@ use super::direct::Set;
 use super::inputs::{Input, for_merging};
 use super::meter::Meter;
 use super::planning::{PAGE, plan};
-use super::ratios::digits;
+use super::ratios::{digits, told};
 use super::subject::QUESTIONS;
 use super::{begin, end, head, progress};
 use crate::case::Case;
@@ -44,19 +44,16 @@ pub(super) fn tables() {
     reading();
 }
 
-/// The least of two measurements, which are apart in time.
+/// The least of three measurements.
 fn planned(case: &Case) -> Pair {
-    plan(case, Meter::Time).least(plan(case, Meter::Time))
+    let least = plan(case, Meter::Time).least(plan(case, Meter::Time));
+    least.least(plan(case, Meter::Time))
 }
 
 /// The first rows of an input, in a coverage that ends with the last of them.
 fn first_rows(input: &Input, count: usize) -> Case {
     let rows = &input.case.rows[..count];
     Case::new(0, rows[count - 1] + 1, rows.iter().copied())
-}
-
-fn told(pair: Pair) -> String {
-    format!("{} / {}", digits(pair.ours), digits(pair.theirs))
 }
 
 /// A line of times to a unit, and how many times as much the last one is as the one at `from`.

@@ -7,7 +7,7 @@ use super::subject::Subject;
 use super::{begin, deletions, end, head, planning, progress, reading};
 
 /// How often the table is measured; the least of all is kept.
-const ROUNDS: usize = 3;
+const ROUNDS: usize = 6;
 
 /// A call that is measured, in what it is told, and at most which ratio is asked for.
 pub(super) struct Line {
@@ -24,7 +24,8 @@ pub(super) fn lines() -> Vec<Line> {
     let slow = |line| Line { slow: true, ..line };
     vec![
         line("validate: lists, bitmaps, missing", "byte", Some(0.35), reading::validate_items),
-        line("validate: runs, segmented, dense", "byte", Some(0.6), reading::validate_others),
+        line("validate: runs, segmented", "byte", Some(0.6), reading::validate_runs),
+        line("validate: dense", "call", Some(0.6), reading::validate_dense),
         line("ranks of rows", "query", Some(0.9), reading::ranks_of_rows),
         line("ranks of absent positions", "query", Some(0.9), reading::ranks_of_absent),
         line("one rank", "call", Some(0.6), reading::one_rank),
@@ -63,10 +64,10 @@ pub(super) fn tables(subjects: &[Subject]) {
     ratios(&lines, &cells, subjects);
     end("ratios");
     begin("times");
-    times(&lines, &cells, subjects);
+    times(&lines, &cells, subjects, told);
     end("times");
     begin("validated-before");
-    times(&apart, &once, subjects);
+    times(&apart, &once, subjects, |pair| format!("{:.1} ({})", pair.ratio(), told(pair)));
     end("validated-before");
 }
 
@@ -124,13 +125,15 @@ fn met(line: &Line, cells: &Cells) -> String {
     }
 }
 
-fn times(lines: &[Line], all: &[Cells], subjects: &[Subject]) {
+/// Our time and that of the other side.
+pub(super) fn told(Pair { ours, theirs }: Pair) -> String {
+    format!("{} / {}", digits(ours), digits(theirs))
+}
+
+fn times(lines: &[Line], all: &[Cells], subjects: &[Subject], shown: fn(Pair) -> String) {
     head(&columns(&["ns", "to a"], subjects, &[]));
     for (line, cells) in lines.iter().zip(all) {
-        let shown = |cell: &Option<Pair>| match cell {
-            Some(Pair { ours, theirs }) => format!("{} / {}", digits(*ours), digits(*theirs)),
-            None => "-".to_string(),
-        };
+        let shown = |cell: &Option<Pair>| cell.map_or("-".to_string(), shown);
         let shown: Vec<String> = cells.iter().map(shown).collect();
         println!("| {} | {} | {} |", line.call, line.unit, shown.join(" | "));
     }

@@ -10,16 +10,16 @@ use std::hint::black_box;
 /// Single questions asked in turn: each of them checks the whole body, so they are few.
 const SINGLE: usize = 64;
 
-fn is_dense_runs_or_segmented(subject: &Subject) -> bool {
-    matches!(subject.tag, 1 | 4 | 5 | 9)
-}
-
 pub(super) fn validate_items(subject: &Subject, meter: Meter) -> Option<Measured> {
-    (!is_dense_runs_or_segmented(subject)).then(|| validate(subject, meter))
+    matches!(subject.tag, 2 | 3 | 6 | 7 | 8).then(|| validate(subject, meter))
 }
 
-pub(super) fn validate_others(subject: &Subject, meter: Meter) -> Option<Measured> {
-    is_dense_runs_or_segmented(subject).then(|| validate(subject, meter))
+pub(super) fn validate_runs(subject: &Subject, meter: Meter) -> Option<Measured> {
+    matches!(subject.tag, 4 | 5 | 9).then(|| validate(subject, meter))
+}
+
+pub(super) fn validate_dense(subject: &Subject, meter: Meter) -> Option<Measured> {
+    matches!(subject.tag, 1).then(|| validate(subject, meter))
 }
 
 /// A dense body has no bytes: there the call is the unit.
