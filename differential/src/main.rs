@@ -29,8 +29,7 @@ mod record;
 use std::process::ExitCode;
 
 const USAGE: &str = "differential examples|merging|reading|largest|deletions|pelisafu|planning|\
-                     guarded|record, or differential soak SECONDS SEED, or differential bench, \
-                     or differential bench ratios|growth|roaring|counts";
+                     guarded|bench|record, or differential soak SECONDS SEED";
 
 fn main() -> ExitCode {
     index::original::hush_caught_panics();

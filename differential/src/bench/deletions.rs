@@ -1,13 +1,12 @@
 //! Pelisafu's deletion sections beside the original's, for the row sets that are ordinals of one
 //! block.
 
-use super::direct::Section;
+use super::direct::{Section, plan_deletions};
 use super::meter::{Measured, Meter};
 use super::planning::{Memory, planned};
 use super::subject::Subject;
 use crate::index::deletions::{Deleted, encode};
 use crate::lwc::set_block_limit;
-use crate::pelisafu::sections::plan_deletions;
 use std::hint::black_box;
 
 const BLOCK_LIMIT: usize = 65_535;
@@ -53,10 +52,7 @@ pub(super) fn plan(subject: &Subject, meter: Meter) -> Option<Measured> {
     let Stored { row_count, ordinals, .. } = Stored::new(subject)?;
     let mut memory = Memory::new();
     let times = meter.pair(
-        || {
-            let means = memory.lent();
-            planned(plan_deletions(row_count, BLOCK_LIMIT, black_box(&ordinals), means))
-        },
+        || planned(plan_deletions(row_count, black_box(&ordinals), memory.lent())),
         || encode(row_count, black_box(&ordinals)),
     );
     Some((times, ordinals.len()))

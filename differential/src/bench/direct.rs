@@ -1,101 +1,14 @@
 //! The calls of the static library and nothing more: the calls of the comparisons may put slices
 //! beside guarded pages, which a short call would be measured with.
 
-use crate::pelisafu::calls::Gathering;
-
-#[repr(C)]
-struct Checked {
-    number: u8,
-    rows: u16,
-}
-
-#[repr(C)]
-struct Ranked {
-    number: u8,
-    found: u8,
-    ordinal: u16,
-}
-
-#[repr(C)]
-struct Selected {
-    number: u8,
-    found: u8,
-    position: u32,
-}
-
-#[repr(C)]
-struct Filled {
-    number: u8,
-    written: usize,
-}
-
-#[repr(C)]
-struct Contained {
-    number: u8,
-    found: u8,
-}
-
-type Bytes = *const u8;
-
-unsafe extern "C" {
-    fn pelisafu_validate(tag: u8, span: u32, body: Bytes, length: usize) -> Checked;
-    fn pelisafu_rank(tag: u8, span: u32, body: Bytes, length: usize, position: u32) -> Ranked;
-    fn pelisafu_ranks(
-        tag: u8,
-        span: u32,
-        body: Bytes,
-        length: usize,
-        positions: *const u32,
-        positions_length: usize,
-        out: *mut u32,
-        out_length: usize,
-    ) -> Filled;
-    fn pelisafu_select(tag: u8, span: u32, body: Bytes, length: usize, ordinal: u16) -> Selected;
-    fn pelisafu_walk(
-        tag: u8,
-        span: u32,
-        body: Bytes,
-        length: usize,
-        from: u16,
-        out: *mut u32,
-        out_length: usize,
-    ) -> Filled;
-    fn pelisafu_add_page(
-        record: *mut Gathering,
-        table: *mut u16,
-        length: usize,
-        rows: *const u64,
-        rows_length: usize,
-    ) -> u8;
-    fn pelisafu_check_deletions(
-        row_count: u16,
-        block_limit: usize,
-        count: u16,
-        tag: u8,
-        body: Bytes,
-        length: usize,
-    ) -> Checked;
-    fn pelisafu_deleted(
-        row_count: u16,
-        block_limit: usize,
-        count: u16,
-        tag: u8,
-        body: Bytes,
-        length: usize,
-        ordinal: u16,
-    ) -> Contained;
-    fn pelisafu_walk_deletions(
-        row_count: u16,
-        block_limit: usize,
-        count: u16,
-        tag: u8,
-        body: Bytes,
-        length: usize,
-        from: u16,
-        out: *mut u16,
-        out_length: usize,
-    ) -> Filled;
-}
+use crate::pelisafu::calls::{
+    Gathering, pelisafu_add_page, pelisafu_rank, pelisafu_ranks, pelisafu_select,
+    pelisafu_validate, pelisafu_walk,
+};
+use crate::pelisafu::plans::{Means, Planned};
+use crate::pelisafu::sections::{
+    pelisafu_check_deletions, pelisafu_deleted, pelisafu_plan_deletions, pelisafu_walk_deletions,
+};
 
 /// Tag, span and body of a row set that is accepted.
 #[derive(Clone, Copy)]
@@ -213,4 +126,12 @@ impl Section<'_> {
         accepted(answer.number);
         answer.written
     }
+}
+
+/// Plans the deletions of a block that has no more rows than the limit.
+pub(super) fn plan_deletions(row_count: u16, ordinals: &[u16], means: Means) -> Planned {
+    let (given, count, limit) = (ordinals.as_ptr(), ordinals.len(), usize::from(u16::MAX));
+    let (work, words) = (means.work.as_mut_ptr(), means.work.len());
+    let (out, room) = (means.out.as_mut_ptr(), means.out.len());
+    unsafe { pelisafu_plan_deletions(row_count, limit, given, count, work, words, out, room) }
 }
