@@ -11,6 +11,7 @@ fn main() {
     println!("cargo::rerun-if-env-changed=DORADB_SRC");
     println!("cargo::rerun-if-changed=build.rs");
     link_pelisafu();
+    link_roaring();
     let package = PathBuf::from(env::var_os("CARGO_MANIFEST_DIR").expect("cargo sets it"));
     let out = PathBuf::from(env::var_os("OUT_DIR").expect("cargo sets it"));
     let sources = match env::var_os("DORADB_SRC") {
@@ -53,6 +54,16 @@ fn link_pelisafu() {
     println!("cargo::rustc-link-search=native={}", folder.display());
     println!("cargo::rustc-link-lib=static=pelisafu");
     println!("cargo::rustc-cfg=pelisafu");
+}
+
+/// Links CRoaring where the caller has found it, for the benchmark alone.
+fn link_roaring() {
+    println!("cargo::rustc-check-cfg=cfg(roaring)");
+    println!("cargo::rerun-if-env-changed=WITH_ROARING");
+    if env::var_os("WITH_ROARING").is_some() {
+        println!("cargo::rustc-link-lib=roaring");
+        println!("cargo::rustc-cfg=roaring");
+    }
 }
 
 fn added_lines(package: &Path) -> String {

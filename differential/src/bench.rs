@@ -1,172 +1,93 @@
-//! Measures the original: planning, validating, ranking, selecting and walking, by tag; and
-//! Pelisafu's planning, gathering and reading calls beside it. Inputs are made before the clock runs, and every answer
-//! goes into a black box.
+//! Measures Pelisafu beside the original, and beside CRoaring where it is installed. Inputs and
+//! outputs are made before the clock runs, and every answer goes into a black box. What is
+//! printed is the Markdown that docs/BENCHMARKS.md keeps between its markers; how far it has come
+//! is told on standard error.
 
-#[cfg(pelisafu)]
-mod beside;
+mod bodies;
 mod clock;
+mod counts;
+mod deletions;
+mod direct;
+mod growth;
 mod inputs;
-#[cfg(pelisafu)]
+mod meter;
 mod planning;
+mod ratios;
+mod reading;
+#[cfg(roaring)]
+mod roaring;
+mod subject;
 
-use crate::case::{Case, Verdict};
-use crate::index::original::{self, Accepted, Seeds, encode, row_ids};
-use crate::random::Random;
-use clock::{SAMPLES, median};
-use inputs::{Input, by_tag, for_merging};
-use std::hint::black_box;
+use crate::case::Verdict;
+use subject::Subject;
 
-/// How many questions are asked in turn, so that no branch learns an answer by heart.
-const QUESTIONS: usize = 4_096;
+/// The parts of the benchmark, in the order in which they run.
+const PARTS: [&str; 4] = ["ratios", "growth", "roaring", "counts"];
 
-pub(crate) fn table() -> Verdict {
-    inputs_table()?;
-    planning_table();
-    merging_table();
-    reading_table();
-    #[cfg(pelisafu)]
-    {
-        planning::tables();
-        beside::table();
+/// All parts, or the one that is named.
+pub(crate) fn tables(named: Option<&str>) -> Verdict {
+    if named == Some("counting") {
+        return counts::region(&subjects()?);
     }
-    Ok(format!("\nbench: each figure is the median of {SAMPLES} samples"))
+    if let Some(name) = named.filter(|name| !PARTS.contains(name)) {
+        return Err(format!("no part {name}; there are {}", PARTS.join(", ")));
+    }
+    let subjects = subjects()?;
+    for part in PARTS.into_iter().filter(|part| named.is_none_or(|name| name == *part)) {
+        match part {
+            "ratios" => {
+                inputs_table(&subjects);
+                ratios::tables(&subjects);
+            }
+            "growth" => growth::tables(),
+            "roaring" => roaring_tables(&subjects),
+            _ => counts::tables(&subjects)?,
+        }
+    }
+    Ok(String::new())
 }
 
-/// The head of a table with a title above it.
-fn head(title: &str, columns: &[&str]) {
-    println!("\n### {title}\n");
+fn subjects() -> Result<Vec<Subject>, String> {
+    inputs::all().into_iter().map(Subject::new).collect()
+}
+
+#[cfg(roaring)]
+fn roaring_tables(subjects: &[Subject]) {
+    roaring::tables(subjects);
+}
+
+#[cfg(not(roaring))]
+fn roaring_tables(_: &[Subject]) {
+    progress("CRoaring is left out: libroaring is not installed (Debian: libroaring-dev)");
+}
+
+/// Says on standard error how far it has come.
+fn progress(what: &str) {
+    eprintln!("bench: {what}");
+}
+
+/// What stands between these two lines takes the place of what docs/BENCHMARKS.md has there.
+fn begin(block: &str) {
+    println!("\n<!-- {block} -->\n");
+}
+
+fn end(block: &str) {
+    println!("\n<!-- end of {block} -->");
+}
+
+/// The head of a table.
+fn head(columns: &[&str]) {
     println!("| {} |", columns.join(" | "));
     println!("|{}", "---|".repeat(columns.len()));
 }
 
-/// What is measured. Fails where the planner takes another tag than the input was made for.
-fn inputs_table() -> Result<(), String> {
-    head("Inputs by tag", &["tag", "rows are", "span", "rows", "segments", "bytes"]);
-    for (tag, Input { name, case }) in by_tag() {
-        let plan = original::plan(&case).map_err(|no| format!("{name}: {no:?}"))?;
-        if plan.tag != tag {
-            return Err(format!("{name}: tag {}, not {tag}", plan.tag));
-        }
-        let (span, rows) = (case.end - case.start, case.rows.len());
-        let (segments, bytes) = (plan.segment_ends.len(), plan.body.len());
-        println!("| {tag} | {name} | {span} | {rows} | {segments} | {bytes} |");
+fn inputs_table(subjects: &[Subject]) {
+    begin("inputs");
+    head(&["column", "tag", "rows are", "span", "rows", "segments", "bytes"]);
+    for subject in subjects {
+        let Subject { key, tag, name, segments, .. } = subject;
+        let (span, rows, bytes) = (subject.span(), subject.rows(), subject.body.len());
+        println!("| {key} | {tag} | {name} | {span} | {rows} | {segments} | {bytes} |");
     }
-    Ok(())
-}
-
-/// The median time of one plan, in nanoseconds.
-fn planning_time(case: &Case) -> f64 {
-    let (rows, seeds) = (row_ids(&case.rows), Seeds::gathered(case));
-    median(|| encode(black_box(case), black_box(&rows), &seeds))
-}
-
-fn planning_table() {
-    let columns = ["tag", "no seeds, µs", "ns per row", "pages of 64 rows, µs", "ns per row"];
-    head("Planning by tag", &columns);
-    for (tag, Input { case, .. }) in by_tag() {
-        let rows = case.rows.len() as f64;
-        let plain = planning_time(&case);
-        let paged = planning_time(&case.in_pages_of(64));
-        println!(
-            "| {tag} | {:.1} | {:.2} | {:.1} | {:.2} |",
-            plain / 1e3,
-            plain / rows,
-            paged / 1e3,
-            paged / rows
-        );
-    }
-}
-
-fn merging_table() {
-    let columns = ["65,535 rows", "seeds", "offers", "segments", "tag", "ms", "ns per seed"];
-    head("Planning with many seeds", &columns);
-    for Input { name, case } in for_merging() {
-        let paged = [16, 1].map(|size| case.clone().in_pages_of(size));
-        for case in [case].into_iter().chain(paged) {
-            println!("| {name} | {} |", merging_row(&case));
-        }
-    }
-}
-
-fn merging_row(case: &Case) -> String {
-    let plan = original::plan(case).expect("inputs that are not refused");
-    let time = planning_time(case);
-    let (seeds, each) = match Seeds::gathered(case).ends().len() {
-        0 => ("none given".to_string(), "-".to_string()),
-        n => (n.to_string(), format!("{:.0}", time / n as f64)),
-    };
-    let (offers, segments, tag) = (plan.offers, plan.segment_ends.len(), plan.tag);
-    let millis = time / 1e6;
-    format!("{seeds} | {offers} | {segments} | {tag} | {millis:.3} | {each}")
-}
-
-fn reading_table() {
-    let columns = [
-        "tag",
-        "validate, µs",
-        "ns per row",
-        "rank of a row, ns",
-        "rank of an absent position, ns",
-        "select, ns",
-        "walk, ns per row",
-    ];
-    head("Reading by tag", &columns);
-    for (tag, Input { case, .. }) in by_tag() {
-        println!("| {tag} | {} |", reading_row(&case));
-    }
-}
-
-fn reading_row(case: &Case) -> String {
-    let plan = original::plan(case).expect("the inputs were planned before");
-    let (span, body) = ((case.end - case.start) as u32, plan.body.as_slice());
-    let read = || Accepted::new(black_box(plan.tag), black_box(span), black_box(body));
-    let validate = median(read);
-    let set = read().expect("a planned body is accepted");
-    let questions = Questions::new(case);
-    let each = |ask: &dyn Fn()| median(ask) / QUESTIONS as f64;
-    let rank_all = |positions: &[u32]| {
-        for position in positions {
-            black_box(set.rank(black_box(*position)));
-        }
-    };
-    let present = each(&|| rank_all(&questions.present));
-    let absent = match questions.absent.as_slice() {
-        [] => "-".to_string(),
-        positions => format!("{:.1}", each(&|| rank_all(positions))),
-    };
-    let select = each(&|| {
-        for ordinal in &questions.ordinals {
-            black_box(set.select(black_box(*ordinal)));
-        }
-    });
-    let rows = case.rows.len() as f64;
-    let walk = median(|| set.positions().fold(0, u32::wrapping_add)) / rows;
-    let (micros, row) = (validate / 1e3, validate / rows);
-    format!("{micros:.2} | {row:.3} | {present:.1} | {absent} | {select:.1} | {walk:.2}")
-}
-
-/// Random questions about a row set.
-struct Questions {
-    present: Vec<u32>,
-    /// None where no position is absent.
-    absent: Vec<u32>,
-    ordinals: Vec<u16>,
-}
-
-impl Questions {
-    fn new(case: &Case) -> Self {
-        let mut random = Random::new(6);
-        let (span, count) = (case.end - case.start, case.rows.len() as u64);
-        let ordinals: Vec<u16> = (0..QUESTIONS).map(|_| random.below(count) as u16).collect();
-        let position = |ordinal: &u16| (case.rows[usize::from(*ordinal)] - case.start) as u32;
-        let present = ordinals.iter().map(position).collect();
-        let mut absent = Vec::new();
-        while absent.len() < QUESTIONS && count < span {
-            let position = random.below(span);
-            if case.rows.binary_search(&(case.start + position)).is_err() {
-                absent.push(position as u32);
-            }
-        }
-        Self { present, absent, ordinals }
-    }
+    end("inputs");
 }

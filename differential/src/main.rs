@@ -12,6 +12,7 @@ mod id;
 #[path = "stand_ins/lwc.rs"]
 mod lwc;
 
+#[cfg(pelisafu)]
 mod bench;
 mod case;
 mod deletions;
@@ -47,7 +48,8 @@ fn main() -> ExitCode {
         "guarded" => pelisafu::compare_guarded(),
         #[cfg(pelisafu)]
         "soak" => soak(),
-        "bench" => bench::table(),
+        #[cfg(pelisafu)]
+        "bench" => bench::tables(std::env::args().nth(2).as_deref()),
         "record" => record::write(),
         _ => Err(format!("usage: {USAGE}")),
     };

@@ -9,7 +9,7 @@ mod memory;
 mod planning;
 pub(crate) mod plans;
 mod reading;
-mod sections;
+pub(crate) mod sections;
 mod short;
 mod soak;
 

@@ -1,36 +1,59 @@
-//! Timing: the median of several samples of processor time. On a machine that others use too,
-//! the time on the wall would count their turns as well; short samples keep what is left of
-//! them out of the median.
+//! Timing: the least of many samples of processor time. On a machine that others use too, the
+//! time on the wall would count their turns as well, and what their work does to the caches only
+//! ever makes a sample longer, so that the least of many is nearest to the call's own time.
 
 use std::hint::black_box;
 use std::time::Duration;
 
-pub(super) const SAMPLES: usize = 41;
-const SAMPLE_TIME: Duration = Duration::from_micros(300);
+/// How long a sample is at least.
+const SAMPLE: Duration = Duration::from_micros(150);
+/// Samples go on until they have taken so long, but for no more and no fewer turns than these.
+const BUDGET: Duration = Duration::from_millis(20);
+const MOST: usize = 60;
+const FEWEST: usize = 2;
 
-/// The median time of one call, in nanoseconds, with its answer used and given back.
-pub(super) fn median<T>(mut call: impl FnMut() -> T) -> f64 {
-    let repeats = repeats(&mut call);
-    middle((0..SAMPLES).map(|_| each(&mut call, repeats)).collect())
+/// The least times of one call in nanoseconds: Pelisafu's, and that of the other side.
+#[derive(Clone, Copy)]
+pub(super) struct Pair {
+    pub(super) ours: f64,
+    pub(super) theirs: f64,
 }
 
-/// The median times of two calls whose samples take turns, so that what disturbs one of them
+impl Pair {
+    pub(super) fn ratio(self) -> f64 {
+        self.ours / self.theirs
+    }
+
+    /// Both as times of one of so many units.
+    pub(super) fn each(self, units: usize) -> Self {
+        let units = units as f64;
+        Self { ours: self.ours / units, theirs: self.theirs / units }
+    }
+
+    pub(super) fn least(self, other: Self) -> Self {
+        let (ours, theirs) = (self.ours.min(other.ours), self.theirs.min(other.theirs));
+        Self { ours, theirs }
+    }
+}
+
+/// The least times of two calls whose samples take turns, so that what disturbs one of them
 /// disturbs the other as much.
-#[cfg(pelisafu)]
-pub(super) fn medians<T, U>(
-    mut ours: impl FnMut() -> T,
-    mut theirs: impl FnMut() -> U,
-) -> (f64, f64) {
+pub(super) fn turns<T, U>(mut ours: impl FnMut() -> T, mut theirs: impl FnMut() -> U) -> Pair {
     let (our_repeats, their_repeats) = (repeats(&mut ours), repeats(&mut theirs));
-    let turn = |_| (each(&mut ours, our_repeats), each(&mut theirs, their_repeats));
-    let (ours, theirs) = (0..SAMPLES).map(turn).unzip();
-    (middle(ours), middle(theirs))
+    let (mut least, mut turn) = (Pair { ours: f64::INFINITY, theirs: f64::INFINITY }, 0);
+    let begin = processor_time();
+    while turn < FEWEST || turn < MOST && processor_time() - begin < BUDGET {
+        let (ours, theirs) = (each(&mut ours, our_repeats), each(&mut theirs, their_repeats));
+        least = least.least(Pair { ours, theirs });
+        turn += 1;
+    }
+    least
 }
 
 /// How often a call is repeated until a sample is long enough, which also warms it up.
 fn repeats<T>(call: &mut impl FnMut() -> T) -> u32 {
     let mut repeats = 1;
-    while sample(call, repeats) < SAMPLE_TIME {
+    while sample(call, repeats) < SAMPLE {
         repeats *= 2;
     }
     repeats
@@ -38,11 +61,6 @@ fn repeats<T>(call: &mut impl FnMut() -> T) -> u32 {
 
 fn each<T>(call: &mut impl FnMut() -> T, repeats: u32) -> f64 {
     sample(call, repeats).as_nanos() as f64 / f64::from(repeats)
-}
-
-fn middle(mut samples: Vec<f64>) -> f64 {
-    samples.sort_by(f64::total_cmp);
-    samples[SAMPLES / 2]
 }
 
 fn sample<T>(call: &mut impl FnMut() -> T, repeats: u32) -> Duration {

@@ -1,39 +1,44 @@
-//! What is measured: for each tag a row set for which the planner takes it, and large row sets
-//! for merging.
+//! What is measured: for each tag a row set for which the planner takes it, and three large row
+//! sets for merging.
 
 use crate::case::Case;
 use crate::random::Random;
 
-/// A row set under a name that tells its shape.
+/// A row set with the head of its column, a name that tells its shape, and the tag that the
+/// planner takes for it.
 pub(super) struct Input {
+    pub(super) key: &'static str,
     pub(super) name: &'static str,
+    pub(super) tag: u8,
     pub(super) case: Case,
 }
 
-fn input(name: &'static str, case: Case) -> Input {
-    Input { name, case }
+/// All inputs, in the order of the columns.
+pub(super) fn all() -> Vec<Input> {
+    by_tag().into_iter().chain(for_merging()).collect()
 }
 
 /// One input for each tag, in the order of the tags; bitmaps come plain and trimmed.
-pub(super) fn by_tag() -> Vec<(u8, Input)> {
+pub(super) fn by_tag() -> Vec<Input> {
     let mut random = Random::new(4);
     let chance: Vec<u64> = (0..65_536).filter(|_| random.one_in(2)).collect();
     let moved: Vec<u64> = chance.iter().map(|row| row + 300_000).collect();
     let sparse = (0..10_000).map(|n| 400_000 * n);
     let scattered = (0..3_000).map(|n| 21 * n);
+    let far = Case::new(0, 300_000_000, runs(3_000, 100_000, 20));
     let cases = [
-        (1, "all rows", Case::new(0, 65_535, 0..65_535)),
-        (2, "each 400,000th", Case::new(0, 4_294_967_295, sparse)),
-        (3, "each 21st", Case::new(0, 65_536, scattered)),
-        (4, "1,000 runs of 40", Case::new(0, 65_536, runs(1_000, 65, 40))),
-        (5, "3,000 runs of 20, far apart", Case::new(0, 300_000_000, runs(3_000, 100_000, 20))),
-        (6, "every other by chance", Case::new(0, 65_536, chance)),
-        (6, "the same, trimmed", Case::new(0, 4_000_000, moved)),
-        (7, "each 65th absent", Case::new(0, 65_535, holed(0))),
-        (8, "the same in a wide coverage", Case::new(0, 1_000_000, holed(130_000))),
-        (9, "100 clusters of four kinds", Case::new(0, 100_000_000, clusters())),
+        ("1", 1, "all rows", Case::new(0, 65_535, 0..65_535)),
+        ("2", 2, "each 400,000th", Case::new(0, 4_294_967_295, sparse)),
+        ("3", 3, "each 21st", Case::new(0, 65_536, scattered)),
+        ("4", 4, "1,000 runs of 40", Case::new(0, 65_536, runs(1_000, 65, 40))),
+        ("5", 5, "3,000 runs of 20, far apart", far),
+        ("6", 6, "every other by chance", Case::new(0, 65_536, chance)),
+        ("6t", 6, "the same, trimmed", Case::new(0, 4_000_000, moved)),
+        ("7", 7, "each 65th absent", Case::new(0, 65_535, holed(0))),
+        ("8", 8, "the same in a wide coverage", Case::new(0, 1_000_000, holed(130_000))),
+        ("9", 9, "100 clusters of four kinds", Case::new(0, 100_000_000, clusters())),
     ];
-    cases.map(|(tag, name, case)| (tag, Input { name, case })).into()
+    cases.map(|(key, tag, name, case)| Input { key, tag, name, case }).into()
 }
 
 /// 65,535 positions from there on, each 65th of them absent.
@@ -71,9 +76,11 @@ pub(super) fn for_merging() -> Vec<Input> {
         row += if random.one_in(25) { 1 + random.below(200) } else { 1 };
         chance.push(row);
     }
-    vec![
-        input("one run", Case::new(0, 65_535, 0..65_535)),
-        input("every second row", Case::new(0, 131_072, (0..131_070).step_by(2))),
-        input("runs of about 25, gaps up to 200", Case::new(0, row + 1, chance)),
-    ]
+    let evens = Case::new(0, 131_072, (0..131_070).step_by(2));
+    let cases = [
+        ("A", 1, "one run", Case::new(0, 65_535, 0..65_535)),
+        ("B", 6, "every second row", evens),
+        ("C", 9, "runs of about 25, gaps up to 200", Case::new(0, row + 1, chance)),
+    ];
+    cases.map(|(key, tag, name, case)| Input { key, tag, name, case }).into()
 }

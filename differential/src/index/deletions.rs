@@ -39,3 +39,43 @@ pub(crate) fn read(
     assert_eq!(deleted, contained, "the original's own two answers");
     Ok(deleted)
 }
+
+/// Planning alone, for the benchmark.
+#[cfg(pelisafu)]
+pub(crate) fn encode(row_count: u16, ordinals: &[u16]) -> Option<OrdinalDeletionSet> {
+    OrdinalDeletionSet::from_ordinals(row_count, ordinals).ok()
+}
+
+/// A section that the original has accepted, for the benchmark.
+#[cfg(pelisafu)]
+#[derive(Clone, Copy)]
+pub(crate) struct Deleted<'a>(OrdinalDeletionSetRef<'a>);
+
+#[cfg(pelisafu)]
+impl<'a> Deleted<'a> {
+    #[inline]
+    pub(crate) fn new(row_count: u16, stated_count: u16, tag: u8, body: &'a [u8]) -> Option<Self> {
+        OrdinalDeletionSetRef::validate(row_count, stated_count, tag, body).ok().map(Self)
+    }
+
+    /// A section that was accepted before. It is not checked again.
+    #[inline]
+    pub(crate) fn admitted(row_count: u16, tag: u8, body: &'a [u8]) -> Self {
+        Self(OrdinalDeletionSetRef::from_admitted(row_count, Some((tag, body))))
+    }
+
+    #[inline]
+    pub(crate) fn count(self) -> usize {
+        self.0.len()
+    }
+
+    #[inline]
+    pub(crate) fn contains(self, ordinal: u16) -> bool {
+        self.0.contains(ordinal)
+    }
+
+    #[inline]
+    pub(crate) fn ordinals(self) -> impl Iterator<Item = u16> + 'a {
+        self.0.iter()
+    }
+}

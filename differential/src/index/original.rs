@@ -1,7 +1,7 @@
 //! A face of the original: plain numbers in, plain numbers out.
 
 #[cfg(pelisafu)]
-use super::identity_set::probe::entries;
+use super::identity_set::probe::{entries, forget};
 use super::identity_set::probe::{merge, seed_ends};
 use super::identity_set::{EncodedIdentitySet, IdentitySetRef, IdentitySetSeeds};
 use crate::case::{Case, Piece, Plan};
@@ -88,6 +88,13 @@ impl Seeds {
         seeds
     }
 
+    /// The same into the vector that is there already.
+    #[cfg(pelisafu)]
+    pub(crate) fn in_pages_again(&mut self, rows: &[RowID], size: usize) {
+        forget(&mut self.0);
+        rows.chunks(size).for_each(|page| self.0.append_page(page));
+    }
+
     pub(crate) fn ends(&self) -> Vec<usize> {
         seed_ends(&self.0)
     }
@@ -143,6 +150,13 @@ impl<'a> Accepted<'a> {
     #[inline]
     pub(crate) fn new(tag: u8, span: u32, body: &'a [u8]) -> Option<Self> {
         IdentitySetRef::validate(tag, body, span).ok().map(Self)
+    }
+
+    /// A body that was accepted before. It is not checked again.
+    #[cfg(pelisafu)]
+    #[inline]
+    pub(crate) fn admitted(tag: u8, span: u32, body: &'a [u8]) -> Self {
+        Self(IdentitySetRef::from_admitted(tag, body, span))
     }
 
     #[inline]

@@ -26,6 +26,12 @@ pub(crate) fn seed_ends(seeds: &IdentitySetSeeds) -> Vec<usize> {
     seeds.seeds.iter().map(|seed| seed.end).collect()
 }
 
+/// Drops all seeds and keeps their memory.
+#[cfg(pelisafu)]
+pub(crate) fn forget(seeds: &mut IdentitySetSeeds) {
+    seeds.seeds.clear();
+}
+
 /// What the original reads in each entry of a directory: start, span, count, ordinal, offset, length and tag.
 #[cfg(pelisafu)]
 pub(crate) fn entries(set: IdentitySetRef) -> Vec<crate::pelisafu::calls::Entry> {

@@ -3,29 +3,29 @@
 use super::memory::{Lent, LentMut};
 
 #[repr(C)]
-pub(super) struct Checked {
-    number: u8,
-    rows: u16,
+pub(crate) struct Checked {
+    pub(crate) number: u8,
+    pub(crate) rows: u16,
 }
 
 #[repr(C)]
-struct Ranked {
-    number: u8,
-    found: u8,
-    ordinal: u16,
+pub(crate) struct Ranked {
+    pub(crate) number: u8,
+    pub(crate) found: u8,
+    pub(crate) ordinal: u16,
 }
 
 #[repr(C)]
-struct Selected {
-    number: u8,
-    found: u8,
-    position: u32,
+pub(crate) struct Selected {
+    pub(crate) number: u8,
+    pub(crate) found: u8,
+    pub(crate) position: u32,
 }
 
 #[repr(C)]
-pub(super) struct Filled {
-    number: u8,
-    written: usize,
+pub(crate) struct Filled {
+    pub(crate) number: u8,
+    pub(crate) written: usize,
 }
 
 /// A directory entry in a table that is lent.
@@ -57,9 +57,15 @@ struct Gathered {
 }
 
 unsafe extern "C" {
-    fn pelisafu_validate(tag: u8, span: u32, body: *const u8, length: usize) -> Checked;
-    fn pelisafu_rank(tag: u8, span: u32, body: *const u8, length: usize, position: u32) -> Ranked;
-    fn pelisafu_ranks(
+    pub(crate) fn pelisafu_validate(tag: u8, span: u32, body: *const u8, length: usize) -> Checked;
+    pub(crate) fn pelisafu_rank(
+        tag: u8,
+        span: u32,
+        body: *const u8,
+        length: usize,
+        position: u32,
+    ) -> Ranked;
+    pub(crate) fn pelisafu_ranks(
         tag: u8,
         span: u32,
         body: *const u8,
@@ -69,14 +75,14 @@ unsafe extern "C" {
         out: *mut u32,
         out_length: usize,
     ) -> Filled;
-    fn pelisafu_select(
+    pub(crate) fn pelisafu_select(
         tag: u8,
         span: u32,
         body: *const u8,
         length: usize,
         ordinal: u16,
     ) -> Selected;
-    fn pelisafu_walk(
+    pub(crate) fn pelisafu_walk(
         tag: u8,
         span: u32,
         body: *const u8,
@@ -102,7 +108,7 @@ unsafe extern "C" {
         rows_length: usize,
     ) -> Gathered;
     fn pelisafu_add_row(g: *mut Gathering, table: *mut u16, length: usize, row: u64) -> u8;
-    fn pelisafu_add_page(
+    pub(crate) fn pelisafu_add_page(
         g: *mut Gathering,
         table: *mut u16,
         length: usize,

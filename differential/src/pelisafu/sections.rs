@@ -5,13 +5,13 @@ use super::memory::{Lent, LentMut};
 use super::plans::{Means, Planned};
 
 #[repr(C)]
-struct Contained {
-    number: u8,
-    found: u8,
+pub(crate) struct Contained {
+    pub(crate) number: u8,
+    pub(crate) found: u8,
 }
 
 unsafe extern "C" {
-    fn pelisafu_plan_deletions(
+    pub(crate) fn pelisafu_plan_deletions(
         row_count: u16,
         block_limit: usize,
         ordinals: *const u16,
@@ -21,7 +21,7 @@ unsafe extern "C" {
         out: *mut u8,
         out_length: usize,
     ) -> Planned;
-    fn pelisafu_check_deletions(
+    pub(crate) fn pelisafu_check_deletions(
         row_count: u16,
         block_limit: usize,
         count: u16,
@@ -29,7 +29,7 @@ unsafe extern "C" {
         body: *const u8,
         length: usize,
     ) -> Checked;
-    fn pelisafu_deleted(
+    pub(crate) fn pelisafu_deleted(
         row_count: u16,
         block_limit: usize,
         count: u16,
@@ -38,7 +38,7 @@ unsafe extern "C" {
         length: usize,
         ordinal: u16,
     ) -> Contained;
-    fn pelisafu_walk_deletions(
+    pub(crate) fn pelisafu_walk_deletions(
         row_count: u16,
         block_limit: usize,
         count: u16,
