@@ -2,6 +2,7 @@
 -- Assumes nothing.
 use mathlib.Core.Path.{_≡_, refl, sym, ap, _∙_}
 use mathlib.Core.Bool.{Bool, true, false}
+use mathlib.Core.Logic.{⊎-elim}
 use mathlib.Core.List.{List}
 use Prim.Native.Nat.{ℕ, zero, suc, _+_, _<_, _≤_}
 use native.Mathlib.Omega.{arith}
@@ -10,10 +11,11 @@ use lib.ListN.{length, set}
 use borrow.Author.Tests.{eq-eqb, ne-eqb}
 use Rattle.model.specs.Tests.{both, pick}
 use Rattle.model.specs.Answers.{Answer}
-use Rattle.model.proofs.Tests.{pick-true, pick-false}
+use Rattle.model.proofs.Tests.{either, pick-true, pick-false}
 use Rattle.gather.specs.declared.Gatherer.{Gatherer}
 use Rattle.gather.specs.Gather.{answered, kept, impossible, above, rises, firstOf, oneSeed, addedAll, addedAllTo, seeded, paged, pagedTo, someNumber, pageNumber, pageAnswer, pageTable, Paging}
 use Rattle.gather.proofs.Admitted.{neither, passed, fits}
+use Rattle.gather.proofs.Singly.{entries-few}
 
 kept-same : (k : ℕ) (t : List ℕ) → kept k t t ≡ t
 unfolding kept
@@ -66,3 +68,8 @@ module _ (g : Gatherer) (rows : List ℕ) where
   pub paged-rows-to : (t : List ℕ) → oneSeed rows ≡ false → pagedTo t g rows ≡ addedAllTo t g rows
   unfolding pagedTo
   paged-rows-to t e = pick-false _ _ e
+
+  -- a page makes no more seeds than it has rows
+  pub paged-few : 0 < length rows → paged g rows .entries ≤ g .entries + length rows
+  unfolding seeded
+  paged-few some = ⊎-elim (λ e. rw (paged-one e) (omega arith)) (λ e. rw (paged-rows e) (entries-few rows g)) (either (oneSeed rows))

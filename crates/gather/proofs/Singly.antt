@@ -47,6 +47,12 @@ unfolding addedAll
 entries-grow [] g = omega arith
 entries-grow (r ∷ rs) g = omega (arith, after g r .low, entries-grow rs (added g r))
 
+-- by no more than one for each row
+pub entries-few : (rs : List ℕ) (g : Gatherer) → addedAll g rs .entries ≤ g .entries + length rs
+unfolding addedAll
+entries-few [] g = omega arith
+entries-few (r ∷ rs) g = omega (arith, after g r .high, entries-few rs (added g r))
+
 module _ (rows : List ℕ) (g : Gatherer) where
   pub going-start : Counted g (length rows) → Going rows g g 0
   going-start k = record { within = omega arith; counted = rw sub-zero k; whole = refl }

@@ -20,19 +20,24 @@ pub struct Step {
     pub after: Gatherer,
 }
 
-// The by-value answer, over the old record.
+// The by-value answer, over the old record. The new record is written over the old one: with an answer built in each arm, the
+// compiled code chose between two records in memory, where this one stays in registers.
 fn taken_apart(old: Gatherer, c: Gathered) -> Step
     ensures { λ r. ⌜ r ≡ stepOf old c ⌝ }
 {
+    let mut answer = Added::Done;
+    let mut after = old;
     match c {
-        Gathered::Record(next) => Step {
-            answer: Added::Done,
-            after: next,
-        },
-        Gathered::Refused(k) => Step {
-            answer: Added::Refused(k),
-            after: old,
-        },
+        Gathered::Record(next) => {
+            after = next;
+        }
+        Gathered::Refused(k) => {
+            answer = Added::Refused(k);
+        }
+    }
+    Step {
+        answer: answer,
+        after: after,
     }
 }
 

@@ -6,6 +6,7 @@ ghost use lib.ListN.{length};
 ghost use Rattle.gather.specs.Gather.{answerOf, impossible, above, early, late, joins, added, addedTo, rowNumber, rowAnswer, rowTable, rises, oneSeed, addedAll, addedAllTo, seeded, paged, pagedTo, someNumber, pageAnswer, pageTable, Counted, Paging};
 
 mod lent;
+mod rising;
 
 pub use lent::Added;
 pub use lent::Step;
@@ -13,6 +14,7 @@ pub use lent::add_page;
 pub use lent::add_row;
 pub use lent::lend_page;
 pub use lent::lend_row;
+pub use rising::rises;
 
 // Entries of the table in use, rows gathered, first row of the last seed, last row. Hosts lend it, so its layout is C's.
 #[repr(C)]
@@ -164,21 +166,6 @@ pub fn gather_row(g: Gatherer, table: &mut [u16], row: u64) -> Gathered
     Gathered::Record(put_row(g, table, row))
 }
 
-// Whether rows rise strictly. A loop with a flag would be made to compare two rows at once, for which baseline x86-64 has no
-// instruction of 64 bits: it takes longer than this one.
-pub fn rises(rows: &[u64]) -> bool
-    ensures { λ r. ⌜ r ≡ rises (now (rows .entry)) ⌝ }
-{
-    let mut i = 0;
-    while i + 1 < rows.len() {
-        if rows[i + 1] <= rows[i] {
-            return false;
-        }
-        i += 1;
-    }
-    true
-}
-
 // Whether a page that is not empty is one seed.
 fn one_seed(rows: &[u64]) -> bool
     requires { ⌜ 0 < length (now rows) ⌝ }
@@ -246,7 +233,7 @@ fn paged(g: Gatherer, rows: &[u64]) -> Gatherer
     }
 }
 
-// The number of a refusal of a page that is not empty, or 0.
+// The number of a refusal of a page that is not empty, or 0. Where there is room for a seed of each row, none are counted.
 fn some_number(g: Gatherer, room: usize, rows: &[u64]) -> u8
     requires { ⌜ 0 < length (now rows) ⌝ }
     ensures { λ r. ⌜ r ≡ someNumber g room (now (rows .entry)) ⌝ }
@@ -255,6 +242,9 @@ fn some_number(g: Gatherer, room: usize, rows: &[u64]) -> u8
     let k = early(g, room, rising, rows.len());
     if k != 0 {
         return k;
+    }
+    if rows.len() <= room - g.entries {
+        return 0;
     }
     late(paged(g, rows), room)
 }

@@ -27,7 +27,7 @@ use Rattle.pelisafu.specs.Shown.{numberOf}
 use Rattle.pelisafu.proofs.gathering.number_of as number-of
 
 -- the number of what was added is the answer's
-number-is : (a : Added) (g : Gatherer) → numberOf a ≡ addedAnswer a g .number
+pub number-is : (a : Added) (g : Gatherer) → numberOf a ≡ addedAnswer a g .number
 unfolding numberOf addedAnswer
 number-is Done g = refl
 number-is (Refused k) g = refl

@@ -2,10 +2,11 @@
 use crate::Gathered;
 use gather::Added;
 use gather::Gatherer;
+use gather::Step;
 ghost use mathlib.Core.Path.{_≡_};
 ghost use lib.ListN.{length};
-ghost use Rattle.gather.specs.Gather.{answerOf, rowAnswer, rowTable, pageAnswer, pageTable};
-ghost use Rattle.gather.specs.Records.{stepOf, rowRecord, pageRecord};
+ghost use Rattle.gather.specs.Gather.{rowAnswer, rowTable, pageAnswer, pageTable};
+ghost use Rattle.gather.specs.Records.{addedAnswer, rowRecord, pageRecord};
 ghost use Rattle.pelisafu.specs.Shown.{shownGathered, numberOf};
 
 // ---- from enums to numbers and structs
@@ -19,29 +20,25 @@ pub fn number_of(a: Added) -> u8
     }
 }
 
-fn of_gathered(old: Gatherer, c: gather::Gathered) -> Gathered
-    ensures { λ r. ⌜ r ≡ shownGathered (answerOf c) (stepOf old c .after) ⌝ }
+fn of_step(s: Step) -> Gathered
+    ensures { λ r. ⌜ r ≡ shownGathered (addedAnswer (s .answer) (s .after)) (s .after) ⌝ }
 {
-    match c {
-        gather::Gathered::Record(next) => Gathered {
-            number: 0,
-            record: next,
-        },
-        gather::Gathered::Refused(k) => Gathered {
-            number: k,
-            record: old,
-        },
+    let answer = s.answer;
+    let after = s.after;
+    Gathered {
+        number: number_of(answer),
+        record: after,
     }
 }
 
-// ---- by value
+// ---- by value: over the calls on a lent record, so that the archive has the work once and not behind a struct in memory
 
 #[no_mangle]
 pub extern "C" fn pelisafu_gather_row(g: Gatherer, table: &mut [u16], row: u64) -> Gathered
     ensures { λ r. ⌜ r ≡ shownGathered (rowAnswer g (length (now (table .entry))) row) (rowRecord g (length (now (table .entry))) row) ⌝ }
     ensures { λ _. ⌜ now (table .exit) ≡ rowTable g (now (table .entry)) row ⌝ }
 {
-    of_gathered(g, gather::gather_row(g, table, row))
+    of_step(gather::lend_row(g, table, row))
 }
 
 #[no_mangle]
@@ -49,7 +46,7 @@ pub extern "C" fn pelisafu_gather_page(g: Gatherer, table: &mut [u16], rows: &[u
     ensures { λ r. ⌜ r ≡ shownGathered (pageAnswer g (length (now (table .entry))) (now (rows .entry))) (pageRecord g (length (now (table .entry))) (now (rows .entry))) ⌝ }
     ensures { λ _. ⌜ now (table .exit) ≡ pageTable g (now (table .entry)) (now (rows .entry)) ⌝ }
 {
-    of_gathered(g, gather::gather_page(g, table, rows))
+    of_step(gather::lend_page(g, table, rows))
 }
 
 // ---- lent: the number of the refusal, or 0

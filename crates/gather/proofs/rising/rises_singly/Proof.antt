@@ -1,4 +1,4 @@
--- `gather::rises` meets its contract.
+-- `gather::rises_singly` meets its contract.
 -- Assumes nothing.
 use mathlib.Core.Path.{_≡_, refl, sym, _∙_}
 use mathlib.Core.Bool.{true}
@@ -10,8 +10,8 @@ use lib.ListN.{length}
 use Rattle.model.specs.Tests.{all}
 use Rattle.model.proofs.Tests.{all-more, all-stop}
 use Rattle.gather.specs.Gather.{upAt, rises}
-use Rattle.gather.proofs.rises.Statement.{statement}
-use Rattle.gather.proofs.rises.Tie as tie
+use Rattle.gather.proofs.rising.rises_singly.Statement.{statement}
+use Rattle.gather.proofs.rising.rises_singly.Tie as tie
 
 abbrev Inv-loop : tie.InvT-loop
 Inv-loop rows i₀ i = (i ≤ length rows - 1) × (all (upAt rows) i ≡ true)
@@ -19,9 +19,9 @@ Inv-loop rows i₀ i = (i ≤ length rows - 1) × (all (upAt rows) i ≡ true)
 abbrev μ-loop : tie.MeasureT-loop
 μ-loop rows i₀ i = length rows - i
 
-pub rises-spec : {M : Type 1} → statement M
+pub rises-singly-spec : {M : Type 1} → statement M
 unfolding upAt rises all
-rises-spec =
+rises-singly-spec =
     tie.close
     (tie.spec
     Inv-loop
