@@ -29,7 +29,7 @@ use Rattle.directory.proofs.LaidOut.{length-layout}
 use Rattle.forms.specs.Forms.{localLayout}
 use Rattle.directory.specs.declared.Segment.{Segment}
 use Rattle.emit.specs.Written.{Written}
-use Rattle.emit.proofs.Rows.{rising-drop}
+use Rattle.emit.proofs.Alike.{rising-drop}
 use Rattle.encode.specs.Headers.{entryBytes}
 use Rattle.encode.specs.Segments.{Placed}
 use Rattle.encode.proofs.Wholes.{rising-ends, ends-in, trimmed-extent, trimmed-own}
