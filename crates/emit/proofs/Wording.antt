@@ -4,7 +4,7 @@ use mathlib.Core.Path.{_≡_, refl, sym, ap, subst, _∙_}
 use mathlib.Core.Bool.{true, false}
 use mathlib.Core.Logic.{⊎-elim}
 use mathlib.Core.List.{List, [], _∷_, _++_, append-assoc, append-nil}
-use Prim.Native.Nat.{ℕ, zero, suc, _+_, _-_, _*_, _/_, _%_, _^_, _<_, _≤_}
+use Prim.Native.Nat.{ℕ, zero, suc, _+_, _-_, _*_, _/_, _%_, _^_, _<_, _≤_, min}
 use native.Mathlib.Nat.{zero-add, add-zero, add-suc, sub-zero, add-mul, eq-or-lt-of-le}
 use native.Mathlib.Numerals.{add-one}
 use native.Mathlib.Omega.{arith}
@@ -31,7 +31,7 @@ use Rattle.word.proofs.Masks.{num-append, range-or, range-lt, range-up}
 use Rattle.bitmap.specs.Body.{wordsOf, groupsOf, bitmapLength, bitmapLayout}
 use Rattle.emit.specs.declared.Word.{Word}
 use Rattle.emit.specs.Written.{Written}
-use Rattle.emit.specs.Words.{withDigit, withRun, countedAt, Cut, Worded, Stands, Stretch, Wording, Longer}
+use Rattle.emit.specs.Words.{withDigit, withRun, countedAt, Cut, Worded, Stands, Stretch, Wording}
 use Rattle.emit.proofs.Storing.{put-comm}
 use Rattle.emit.proofs.Alike.{rising-take}
 
@@ -55,15 +55,19 @@ module _ {b : ℕ} {xs : List ℕ} (r : Rising 0 b xs) where
     pub stretch-one : Stretch xs j q 1
     stretch-one = record { some = omega arith; fits = omega arith; inside = omega (arith, f .0); each = λ m h. let z : m ≡ 0 = omega arith in rw (z, add-zero, add-zero) (f .1) }
 
-    -- all of them, by the last
-    pub stretch-last : (n : ℕ) → 1 ≤ n → q % 64 + n ≤ 64 → Stands xs (j + (n - 1)) (q + (n - 1)) → Stretch xs j q n
-    stretch-last n some fits t =
+    -- the first n of m, by the last of those
+    pub stretch-upto : (m n : ℕ) → 1 ≤ n → n ≤ m → q % 64 + n ≤ 64 → Stands xs (j + (m - 1)) (q + (m - 1)) → Stretch xs j q n
+    stretch-upto m n some upto fits t =
         record {
           some = some;
           fits = fits;
           inside = omega (arith, t .0);
-          each = λ m h. let l : j + m < length xs = omega (arith, t .0) in omega (arith, apart r j (j + m) (omega arith) l, apart r (j + m) (j + (n - 1)) (omega arith) (t .0), f .1, t .1);
+          each = λ x h. let l : j + x < length xs = omega (arith, t .0) in omega (arith, apart r j (j + x) (omega arith) l, apart r (j + x) (j + (m - 1)) (omega arith) (t .0), f .1, t .1);
         }
+
+    -- as many of 32 as the word has room for
+    pub stretch-least : {n : ℕ} → n ≡ min 32 (64 - q % 64) → Stands xs (j + 31) (q + 31) → Stretch xs j q n
+    stretch-least {n} e t = stretch-upto 32 n (omega (arith, e)) (omega (arith, e)) (omega (arith, e)) t
 
   pub stretch-more : {j q n : ℕ} → Stretch xs j q n → q % 64 + n < 64 → Stands xs (j + n) (q + n) → Stretch xs j q (n + 1)
   stretch-more {j} {q} {n} s h t =
@@ -127,33 +131,17 @@ module _ {xs : List ℕ} {k i : ℕ} (c : Cut xs k i) where
           so = rw o (omega (arith, one, two, three, s .so));
         }
 
--- ---- the digits of single rows: a mask of one
+-- the front of the word
+module _ {xs : List ℕ} {k i : ℕ} (c : Cut xs k i) where
+  pub wording-front : {b q n : ℕ} {m : Word} → Rising 0 b xs → Stretch xs i q n → eqb (q / 64) k ≡ true → m ≡ withRun (record { bits = 0; next = i }) q n → Wording xs k i m
+  wording-front r t e d = rw d (wording-run c (wording-start c) r t e)
 
-pub longer-start : (xs : List ℕ) (k : ℕ) (w : Word) → Longer xs k w w
-longer-start xs k w = record { further = omega arith; still = λ i c s. s }
-
-module _ {xs : List ℕ} {k : ℕ} {w : Word} {j bits : ℕ} (s : Longer xs k w (record { bits = bits; next = j })) where
-  pub longer-next : {b q more : ℕ} → Rising 0 b xs → Stands xs j q → eqb (q / 64) k ≡ true → more ≡ withDigit bits q → Longer xs k w (record { bits = more; next = j + 1 })
+  -- a single row behind it: a mask of one
+  pub wording-next : {j bits b q more : ℕ} → Wording xs k i (record { bits = bits; next = j }) → Rising 0 b xs → Stands xs j q → eqb (q / 64) k ≡ true → more ≡ withDigit bits q → Wording xs k i (record { bits = more; next = j + 1 })
   unfolding numFrom range
-  longer-next {b} {q} {more} r f e d =
+  wording-next {j} {bits} {b} {q} {more} s r f e d =
       let one : numFrom 0 (range (q % 64) 1) ≡ 2 ^ (q % 64) = rw sub-zero (omega arith) in
-      record {
-        further = omega (arith, s .further);
-        still = λ i c v. rw (d, ← one) (wording-run c (s .still i c v) r (stretch-one r f) e);
-      }
-
--- ---- a turn: a mask, and single rows behind it
-
-module _ (w : Word) {xs : List ℕ} {q n : ℕ} {m : Word} (t : Stretch xs (w .next) q n) (e : m ≡ withRun w q n) where
-  pub masked-inside : m .next ≤ length xs
-  masked-inside = rw e (t .inside)
-
-  module _ {k : ℕ} {r : Word} (l : Longer xs k m r) where
-    pub turn-further : w .next < r .next
-    turn-further = omega (arith, l .further, t .some, ap (λ (v : Word). v .next) e)
-
-    pub turn-next : {b i : ℕ} → Rising 0 b xs → Cut xs k i → Wording xs k i w → eqb (q / 64) k ≡ true → Wording xs k i r
-    turn-next {b} {i} rise c s d = l .still i c (rw e (wording-run c s rise t d))
+      rw (d, ← one) (wording-run c s r (stretch-one r f) e)
 
 pub cut-start : (xs : List ℕ) → Cut xs 0 0
 unfolding numFrom

@@ -54,8 +54,3 @@ pub record Wording (xs : List ℕ) (k i : ℕ) (w : Word) : Type 0 where
   pub under : (m : ℕ) → m < w .next → getD xs m 0 < 64 * (k + 1)
   pub small : w .bits < 2 ^ 64
   pub so : numFrom 0 (take (w .next) xs) ≡ w .bits * 2 ^ (64 * k) + numFrom 0 (take i xs)
-
--- on the same way no less far, wherever it began
-pub record Longer (xs : List ℕ) (k : ℕ) (w r : Word) : Type 0 where
-  pub further : w .next ≤ r .next
-  pub still : (i : ℕ) → Cut xs k i → Wording xs k i w → Wording xs k i r

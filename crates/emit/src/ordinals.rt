@@ -11,7 +11,7 @@ ghost use Rattle.missing.specs.Missing.{missingLayout};
 ghost use Rattle.bitmap.specs.Body.{bitmapLength, bitmapLayout};
 ghost use Rattle.cost.specs.Rows.{positionsOf};
 ghost use Rattle.emit.specs.Written.{Written};
-ghost use Rattle.emit.specs.Words.{Cut, Longer, Stands, Stretch, Worded};
+ghost use Rattle.emit.specs.Words.{Cut, Stands, Stretch, Worded, Wording};
 use crate::Word;
 use crate::groups_of;
 use crate::in_word;
@@ -95,20 +95,17 @@ fn stands16(ordinals: &[u16], m: usize, base: u16, p: usize) -> bool
     false
 }
 
-// How many go into a word by one mask, as of rows.
+// How many of a long run lie in a word, as of rows.
 fn run_ordinals(ordinals: &[u16], j: usize, base: u16, q: u32) -> usize
-    requires { ⌜ (Rising base (base + 4294967295) (now ordinals)) × Stands (positionsOf base (now ordinals)) j q ⌝ }
+    requires { ⌜ (Rising base (base + 4294967295) (now ordinals)) × (Stands (positionsOf base (now ordinals)) j q) × Stands (positionsOf base (now ordinals)) (j + 31) (q + 31) ⌝ }
     ensures { λ r. ⌜ Stretch (positionsOf base (now (ordinals .entry))) j q r ⌝ }
 {
     let first = q as usize;
     let room = 64 - first % 64;
-    if !stands16(ordinals, j + 31, base, first + 31) {
-        return 1;
-    }
     if stands16(ordinals, j + (room - 1), base, first + (room - 1)) {
         return room;
     }
-    let mut n = 1;
+    let mut n = least(32, room);
     while n < room {
         if !stands16(ordinals, j + n, base, first + n) {
             return n;
@@ -118,15 +115,34 @@ fn run_ordinals(ordinals: &[u16], j: usize, base: u16, q: u32) -> usize
     n
 }
 
-// A word with the digits of rows behind its own, as long as they stand in it: of 32 at most, for a run may begin there.
-fn digits_ordinals(ordinals: &[u16], word: Word, base: u16, k: usize) -> Word
-    requires { ⌜ (Rising base (base + 4294967295) (now ordinals)) × (word .next ≤ length (now ordinals)) ⌝ }
-    ensures { λ r. ⌜ Longer (positionsOf base (now (ordinals .entry))) k word r ⌝ }
+// The rows that begin a word, where they are a long run, as of rows.
+fn front_ordinals(ordinals: &[u16], i: usize, base: u16, k: usize) -> Word
+    requires { ⌜ (Rising base (base + 4294967295) (now ordinals)) × Cut (positionsOf base (now ordinals)) k i ⌝ }
+    ensures { λ r. ⌜ Wording (positionsOf base (now (ordinals .entry))) k i r ⌝ }
 {
-    let end = least(ordinals.len(), word.next + 32);
-    let mut bits = word.bits;
-    let mut j = word.next;
-    while j < end {
+    let none = Word { bits: 0, next: i };
+    if ordinals.len() <= i {
+        return none;
+    }
+    let q = position16(ordinals[i], base);
+    if !stands16(ordinals, i + 31, base, q as usize + 31) {
+        return none;
+    }
+    if !in_word(q, k) {
+        return none;
+    }
+    with_run(none, q, run_ordinals(ordinals, i, base, q))
+}
+
+// The digits of the word k, whose first row is that of index i.
+fn word_ordinals(ordinals: &[u16], i: usize, base: u16, k: usize) -> Word
+    requires { ⌜ (Rising base (base + 4294967295) (now ordinals)) × Cut (positionsOf base (now ordinals)) k i ⌝ }
+    ensures { λ r. ⌜ Worded (positionsOf base (now (ordinals .entry))) k i r ⌝ }
+{
+    let front = front_ordinals(ordinals, i, base, k);
+    let mut bits = front.bits;
+    let mut j = front.next;
+    while j < ordinals.len() {
         let q = position16(ordinals[j], base);
         if !in_word(q, k) {
             return Word {
@@ -141,24 +157,6 @@ fn digits_ordinals(ordinals: &[u16], word: Word, base: u16, k: usize) -> Word
         bits: bits,
         next: j,
     }
-}
-
-// The digits of the word k, whose first row is that of index i.
-fn word_ordinals(ordinals: &[u16], i: usize, base: u16, k: usize) -> Word
-    requires { ⌜ (Rising base (base + 4294967295) (now ordinals)) × Cut (positionsOf base (now ordinals)) k i ⌝ }
-    ensures { λ r. ⌜ Worded (positionsOf base (now (ordinals .entry))) k i r ⌝ }
-{
-    let mut word = Word { bits: 0, next: i };
-    while word.next < ordinals.len() {
-        let j = word.next;
-        let q = position16(ordinals[j], base);
-        if !in_word(q, k) {
-            return word;
-        }
-        let n = run_ordinals(ordinals, j, base, q);
-        word = digits_ordinals(ordinals, with_run(word, q, n), base, k);
-    }
-    word
 }
 
 pub fn bitmap_ordinals(out: &mut [u8], at: usize, ordinals: &[u16], base: u16, span: u32) -> usize

@@ -11,7 +11,7 @@ ghost use Rattle.missing.specs.Missing.{missingLayout};
 ghost use Rattle.bitmap.specs.Body.{bitmapLength, bitmapLayout};
 ghost use Rattle.cost.specs.Rows.{positionsOf};
 ghost use Rattle.emit.specs.Written.{Written};
-ghost use Rattle.emit.specs.Words.{Cut, Longer, Stands, Stretch, Worded};
+ghost use Rattle.emit.specs.Words.{Cut, Stands, Stretch, Worded, Wording};
 use crate::Word;
 use crate::groups_of;
 use crate::in_word;
@@ -89,22 +89,18 @@ fn stands(rows: &[u64], m: usize, base: u64, p: usize) -> bool
     false
 }
 
-// How many rows go into their word by one mask, from that of index j and position q on. Of a run of 32 rows or more it is the
-// part that lies in the word: since rows rise, one row says that all before it are there. Of a shorter run it is 1, for to
-// look for the ends of short runs costs more by wrong guesses than their digits do.
+// How many rows of a long run, from that of index j and position q on, lie in the word of q: it has 32 rows at least. Since rows
+// rise, the row at the word's end says whether all before it are there. If not, the run ends before, and its end is looked for.
 fn run_rows(rows: &[u64], j: usize, base: u64, q: u32) -> usize
-    requires { ⌜ (Rising base (base + 4294967295) (now rows)) × Stands (positionsOf base (now rows)) j q ⌝ }
+    requires { ⌜ (Rising base (base + 4294967295) (now rows)) × (Stands (positionsOf base (now rows)) j q) × Stands (positionsOf base (now rows)) (j + 31) (q + 31) ⌝ }
     ensures { λ r. ⌜ Stretch (positionsOf base (now (rows .entry))) j q r ⌝ }
 {
     let first = q as usize;
     let room = 64 - first % 64;
-    if !stands(rows, j + 31, base, first + 31) {
-        return 1;
-    }
     if stands(rows, j + (room - 1), base, first + (room - 1)) {
         return room;
     }
-    let mut n = 1;
+    let mut n = least(32, room);
     while n < room {
         if !stands(rows, j + n, base, first + n) {
             return n;
@@ -114,15 +110,35 @@ fn run_rows(rows: &[u64], j: usize, base: u64, q: u32) -> usize
     n
 }
 
-// A word with the digits of rows behind its own, as long as they stand in it: of 32 at most, for a run may begin there.
-fn digits_rows(rows: &[u64], word: Word, base: u64, k: usize) -> Word
-    requires { ⌜ (Rising base (base + 4294967295) (now rows)) × (word .next ≤ length (now rows)) ⌝ }
-    ensures { λ r. ⌜ Longer (positionsOf base (now (rows .entry))) k word r ⌝ }
+// The rows that begin the word k, from that of index i on, where they are a run of 32 or more: they go in by one mask. Of a
+// shorter run none go in here. To look for the ends of short runs costs more by wrong guesses than their digits do.
+fn front_rows(rows: &[u64], i: usize, base: u64, k: usize) -> Word
+    requires { ⌜ (Rising base (base + 4294967295) (now rows)) × Cut (positionsOf base (now rows)) k i ⌝ }
+    ensures { λ r. ⌜ Wording (positionsOf base (now (rows .entry))) k i r ⌝ }
 {
-    let end = least(rows.len(), word.next + 32);
-    let mut bits = word.bits;
-    let mut j = word.next;
-    while j < end {
+    let none = Word { bits: 0, next: i };
+    if rows.len() <= i {
+        return none;
+    }
+    let q = cost::position(rows[i], base);
+    if !stands(rows, i + 31, base, q as usize + 31) {
+        return none;
+    }
+    if !in_word(q, k) {
+        return none;
+    }
+    with_run(none, q, run_rows(rows, i, base, q))
+}
+
+// The digits of the word k, whose first row is that of index i.
+fn word_rows(rows: &[u64], i: usize, base: u64, k: usize) -> Word
+    requires { ⌜ (Rising base (base + 4294967295) (now rows)) × Cut (positionsOf base (now rows)) k i ⌝ }
+    ensures { λ r. ⌜ Worded (positionsOf base (now (rows .entry))) k i r ⌝ }
+{
+    let front = front_rows(rows, i, base, k);
+    let mut bits = front.bits;
+    let mut j = front.next;
+    while j < rows.len() {
         let q = cost::position(rows[j], base);
         if !in_word(q, k) {
             return Word {
@@ -137,24 +153,6 @@ fn digits_rows(rows: &[u64], word: Word, base: u64, k: usize) -> Word
         bits: bits,
         next: j,
     }
-}
-
-// The digits of the word k, whose first row is that of index i.
-fn word_rows(rows: &[u64], i: usize, base: u64, k: usize) -> Word
-    requires { ⌜ (Rising base (base + 4294967295) (now rows)) × Cut (positionsOf base (now rows)) k i ⌝ }
-    ensures { λ r. ⌜ Worded (positionsOf base (now (rows .entry))) k i r ⌝ }
-{
-    let mut word = Word { bits: 0, next: i };
-    while word.next < rows.len() {
-        let j = word.next;
-        let q = cost::position(rows[j], base);
-        if !in_word(q, k) {
-            return word;
-        }
-        let n = run_rows(rows, j, base, q);
-        word = digits_rows(rows, with_run(word, q, n), base, k);
-    }
-    word
 }
 
 pub fn bitmap_rows(out: &mut [u8], at: usize, rows: &[u64], base: u64, span: u32) -> usize

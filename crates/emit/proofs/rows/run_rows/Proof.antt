@@ -3,12 +3,12 @@
 use Prim.Native.Nat.{_-_, _<_}
 use native.Mathlib.Omega.{arith}
 use borrow.Author.Needs.{needs}
-use borrow.Author.Tests.{not-true, not-false}
+use borrow.Author.Tests.{not-false}
 use Rattle.model.specs.Lists.{Rising}
 use Rattle.cost.specs.Rows.{positionsOf}
 use Rattle.emit.specs.Words.{Stretch}
 use Rattle.emit.proofs.Passing.{positions-below}
-use Rattle.emit.proofs.Wording.{indices, stretch-one, stretch-last, stretch-more}
+use Rattle.emit.proofs.Wording.{indices, stretch-upto, stretch-least, stretch-more}
 use Rattle.emit.proofs.rows.run_rows.Statement.{statement}
 use Rattle.emit.proofs.rows.run_rows.Tie as tie
 
@@ -32,27 +32,24 @@ run-rows-spec =
     Inv-loop
     μ-loop
     (λ c. omega arith)
+    (λ c. omega arith)
     (λ c. omega (arith, index (c .before)))
     (λ c. omega arith)
+    (λ c. omega arith)
     (λ c κs. c .before .pre .0)
-    (λ c. let s = c .before .before .before in stretch-one (rising s) (s .pre .1))
-    (λ c. omega arith)
-    (λ c. omega (arith, index (c .before .before .before)))
-    (λ c. omega arith)
-    (λ c. omega arith)
-    (λ c κs. c .before .before .before .pre .0)
     (λ c.
-    let s = c .before .before .before .before .before in
-    stretch-last (rising s) (s .pre .1) _ (omega arith) (omega arith) (c .before .stands2 .ensures (c .if2 .taken)))
-    (λ c. let s = c .before .before .before .before .before in stretch-one (rising s) (s .pre .1))
-    (λ c. omega (arith, index (c .before .before .before .before .before .before .before), c .before .loop .inv .fits))
+    let s = c .before .before .before in
+    stretch-upto (rising s) (s .pre .1) _ _ (omega arith) (omega arith) (omega arith) (c .before .stands .ensures (c .if1 .taken)))
+    (λ c κs. search needs)
+    (λ c. let s = c .before .before .before .before in stretch-least (rising s) (s .pre .1) (c .least .ensures) (s .pre .2))
+    (λ c. omega (arith, index (c .before .before .before .before .before .before), c .before .loop .inv .fits))
     (λ c. omega (arith, c .before .loop .inv .fits))
-    (λ c κs. c .before .before .before .before .before .before .before .pre .0)
+    (λ c κs. c .before .before .before .before .before .before .pre .0)
     (λ c. c .before .before .before .loop .inv)
     (λ c. omega (arith, c .before .before .before .loop .inv .fits))
     (λ c. omega arith)
     (λ c.
     let k = c .before .before in
-    let s = k .before .before .before .before .before .before .before in
-    stretch-more (rising s) (k .before .loop .inv) (omega (arith, k .loop-test .taken)) (c .before .stands3 .ensures (not-false _ (c .if3 .left))))
+    let s = k .before .before .before .before .before .before in
+    stretch-more (rising s) (k .before .loop .inv) (omega (arith, k .loop-test .taken)) (c .before .stands2 .ensures (not-false _ (c .if2 .left))))
     (λ c. c .before .loop .inv))
