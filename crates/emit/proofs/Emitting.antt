@@ -1,12 +1,12 @@
 -- Bytes written one piece after the other into a lent slice: what stands there, and what is still to come.
 -- Assumes nothing.
 use mathlib.Core.Path.{_≡_, refl, sym, ap, _∙_}
-use mathlib.Core.List.{List, [], _∷_, _++_, append-assoc, append-nil}
+use mathlib.Core.List.{List, [], _++_, append-assoc, append-nil}
 use Prim.Native.Nat.{ℕ, _+_, _≤_}
 use native.Mathlib.Nat.{add-zero}
 use native.Mathlib.Omega.{arith}
 use lib.ListN.{length, length-append}
-use lib.Seq.{sets, length-sets}
+use lib.Seq.{length-sets}
 use Rattle.fields.specs.Le.{digits, put}
 use Rattle.fields.proofs.Laws.{length-digits}
 use Rattle.model.proofs.Sets.{sets-append}

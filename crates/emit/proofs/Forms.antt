@@ -1,12 +1,11 @@
 -- The forms that are written run by run: runs and missing.
 -- Assumes nothing.
-use mathlib.Core.Path.{_≡_, refl, sym, ap, _∙_}
-use mathlib.Core.List.{List, [], _∷_, _++_, append-assoc, append-nil}
-use Prim.Native.Nat.{ℕ, zero, suc, _+_, _-_, _*_, _<_, _≤_}
+use mathlib.Core.Path.{_≡_, refl}
+use mathlib.Core.List.{List, [], _∷_, _++_, append-nil}
+use Prim.Native.Nat.{ℕ, zero, suc, _+_, _-_, _≤_}
 use native.Mathlib.Nat.{add-zero, add-suc, suc-add}
 use native.Mathlib.Omega.{arith}
-use lib.ListN.{length}
-use Rattle.model.specs.Lists.{range, complement, Run, run, runsOf, spread}
+use Rattle.model.specs.Lists.{range, complement, run, runsOf, spread}
 use Rattle.model.proofs.Runs.{spread-runsOf}
 use Rattle.lists.specs.Lists.{listLayout}
 use Rattle.lists.proofs.Bytes.{layout-append}

@@ -1,6 +1,6 @@
 pub mod Emitting
 pub mod Pieces
-pub mod Rows
+pub mod Alike
 pub mod Rowing
 pub mod Forms
 pub mod Passing

@@ -1,11 +1,10 @@
 -- What the loops over rows ask at each run, for rows of either width.
 -- Assumes nothing.
-use mathlib.Core.Path.{_≡_, refl, sym, ap, _∙_}
-use mathlib.Core.List.{List, [], _∷_, _++_, append-nil}
-use Prim.Native.Nat.{ℕ, zero, suc, _+_, _-_, _*_, _<_, _≤_}
-use native.Mathlib.Omega.{arith}
+use mathlib.Core.Path.{_≡_, refl, sym, _∙_}
+use mathlib.Core.List.{List, [], _∷_, append-nil}
+use Prim.Native.Nat.{ℕ, _+_, _-_, _*_, _<_, _≤_}
 use lib.ListN.{length, getD}
-use Rattle.model.specs.Lists.{Rising, range, run, runsOf, positionsOf}
+use Rattle.model.specs.Lists.{Rising, range, run, positionsOf}
 use Rattle.model.proofs.Ranges.{length-range}
 use Rattle.model.proofs.Rising.{rising-from, rising-below}
 use Rattle.lists.specs.Lists.{listLayout}
@@ -17,7 +16,7 @@ use Rattle.cost.proofs.RunByRun.{run-after, run-within}
 use Rattle.emit.specs.Written.{Written}
 use Rattle.emit.proofs.Emitting.{Emitting, emitting-next, emitting-room, emitting-end}
 use Rattle.emit.proofs.Pieces.{length-entry}
-use Rattle.emit.proofs.Rowing.{Form, Step, Rowing, Ahead}
+use Rattle.emit.proofs.Rowing.{Step, Rowing, Ahead}
 use Rattle.emit.proofs.Forms.{runsForm, runs-whole, runs-step, runs-end, missingForm, missing-whole, missing-step, missing-end}
 use Rattle.emit.proofs.Passing.{Passing, ahead-rows, room-rows, next-rows, done-rows, pass-next, pass-end}
 

@@ -1,17 +1,21 @@
 -- A loop over rows of either width, by what its positions are.
 -- Assumes nothing.
-use mathlib.Core.Path.{_≡_, refl, sym, ap, _∙_}
-use mathlib.Core.List.{List, [], _∷_, _++_}
-use Prim.Native.Nat.{ℕ, zero, suc, _+_, _-_, _<_, _≤_}
+use mathlib.Core.Path.{_≡_, sym, _∙_}
+use mathlib.Core.Bool.{true}
+use mathlib.Core.List.{List, []}
+use Prim.Native.Nat.{ℕ, _+_, _-_, _<_, _≤_}
 use native.Mathlib.Omega.{arith}
+use lib.Dec.{eqb}
 use lib.ListN.{length, getD}
 use Rattle.model.specs.Lists.{Rising, runsOf, positionsOf}
 use Rattle.cost.specs.Rows.{runEnd}
 use Rattle.model.proofs.Positions.{length-positions, getD-positions, positions-rising}
+use borrow.Author.Tests.{eqb-true}
 use Rattle.emit.specs.Written.{Written}
-use Rattle.emit.proofs.Emitting.{Emitting, emitting-length, emitting-end}
-use Rattle.emit.proofs.Rows.{run-same}
-use Rattle.emit.proofs.Rowing.{Form, Step, Rowing, Ahead, rowing-start, rowing-ahead, rowing-within, rowing-room, rowing-next, rowing-done}
+use Rattle.emit.specs.Words.{Stands}
+use Rattle.emit.proofs.Emitting.{Emitting, emitting-end}
+use Rattle.emit.proofs.Alike.{run-same}
+use Rattle.emit.proofs.Rowing.{Form, Step, Rowing, Ahead, rowing-start, rowing-ahead, rowing-room, rowing-next, rowing-done}
 
 -- ---- rows and their positions by index
 
@@ -27,6 +31,13 @@ module _ (base : ℕ) (rows : List ℕ) {i : ℕ} (h : i < length rows) where
 
   pub row-first : {start : ℕ} → start ≡ getD rows i 0 - base → start ≡ getD (positionsOf base rows) i 0
   row-first a = a ∙ sym (getD-positions base rows i h)
+
+  pub row-stands : {q : ℕ} → q ≡ getD rows i 0 - base → Stands (positionsOf base rows) i q
+  row-stands a = (row-inside, sym (row-first a))
+
+  -- the same where a test says which position it is
+  pub row-stands-at : {q p : ℕ} → q ≡ getD rows i 0 - base → eqb q p ≡ true → Stands (positionsOf base rows) i p
+  row-stands-at {q} {p} a e = (row-inside, sym (row-first a) ∙ eqb-true q p e)
 
   pub row-end : {b j : ℕ} → Rising base b rows → j ≡ runEnd rows i → j ≡ runEnd (positionsOf base rows) i
   row-end r l = l ∙ sym (run-same base r i h)

@@ -1,9 +1,9 @@
 -- A loop over rows that writes a form run by run. The form is what its bytes are from a run on: of the rows before that run,
 -- the end of the run before it, and the runs that are left.
 -- Assumes nothing.
-use mathlib.Core.Path.{_≡_, refl, sym, ap, _∙_}
+use mathlib.Core.Path.{_≡_, ap, _∙_}
 use mathlib.Core.List.{List, [], _∷_, _++_}
-use Prim.Native.Nat.{ℕ, zero, suc, _+_, _-_, _<_, _≤_}
+use Prim.Native.Nat.{ℕ, _+_, _-_, _<_, _≤_}
 use native.Mathlib.Nat.{le-trans}
 use native.Mathlib.Omega.{arith}
 use lib.ListN.{length, getD, drop, drop-of-length-le}
@@ -12,7 +12,7 @@ use Rattle.model.proofs.Runs.{apart-runsOf}
 use Rattle.cost.specs.Rows.{runEnd}
 use Rattle.cost.proofs.RunByRun.{run-at, run-after, run-within}
 use Rattle.emit.specs.Written.{Written}
-use Rattle.emit.proofs.Emitting.{Emitting, emitting-start, emitting-next, emitting-room, emitting-end}
+use Rattle.emit.proofs.Emitting.{Emitting, emitting-start, emitting-next, emitting-room}
 
 abbrev pub Form : Type 0
 Form = ℕ → ℕ → List Run → List ℕ

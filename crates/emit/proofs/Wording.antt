@@ -3,13 +3,13 @@
 use mathlib.Core.Path.{_≡_, refl, sym, ap, subst, _∙_}
 use mathlib.Core.Bool.{true, false}
 use mathlib.Core.Logic.{⊎-elim}
-use mathlib.Core.List.{List}
-use Prim.Native.Nat.{ℕ, zero, suc, _+_, _-_, _*_, _/_, _%_, _^_, _<_, _≤_}
-use native.Mathlib.Nat.{zero-add, sub-zero, one-mul, add-mul, pow-suc, eq-or-lt-of-le}
+use mathlib.Core.List.{List, [], _∷_, _++_, append-assoc, append-nil}
+use Prim.Native.Nat.{ℕ, zero, suc, _+_, _-_, _*_, _/_, _%_, _^_, _<_, _≤_, min}
+use native.Mathlib.Nat.{zero-add, add-zero, add-suc, sub-zero, add-mul, eq-or-lt-of-le}
 use native.Mathlib.Numerals.{add-one}
 use native.Mathlib.Omega.{arith}
 use lib.Arith.{digits-lt}
-use lib.Bits.{or-shifted-r}
+use lib.Bits.{bitOr}
 use lib.Dec.{eqb}
 use lib.ListN.{length, getD, take, length-append}
 use lib.Pow.{pow-pos, pow-mono, pow-add, shr-lt, high, low}
@@ -19,17 +19,19 @@ use Rattle.fields.specs.Le.{digits, put}
 use Rattle.fields.proofs.Laws.{length-digits, length-put, put-split}
 use Rattle.fields.proofs.Binary.{pow-bytes}
 use Rattle.model.specs.Tests.{flat}
-use Rattle.model.specs.Lists.{Rising, below}
+use Rattle.model.specs.Lists.{Rising, below, range}
+use Rattle.model.proofs.Ranges.{range-append}
 use Rattle.model.proofs.Sets.{sets-append}
 use Rattle.model.proofs.Tests.{either, order, never, strictly, last-or-before, same-or-not, pick-true, pick-false}
-use Rattle.model.proofs.Rising.{rising-strict, rising-below, rising-before}
+use Rattle.model.proofs.Rising.{rising-below, rising-before, rising-apart, rising-room}
 use Rattle.model.proofs.Standing.{below-cut}
 use Rattle.word.specs.Bits.{numFrom}
-use Rattle.word.proofs.Numbers.{num-lt, num-snoc}
+use Rattle.word.proofs.Numbers.{num-lt}
+use Rattle.word.proofs.Masks.{num-append, range-or, range-lt, range-up}
 use Rattle.bitmap.specs.Body.{wordsOf, groupsOf, bitmapLength, bitmapLayout}
 use Rattle.emit.specs.declared.Word.{Word}
 use Rattle.emit.specs.Written.{Written}
-use Rattle.emit.specs.Words.{withDigit, countedAt, Cut, Worded}
+use Rattle.emit.specs.Words.{withDigit, withRun, countedAt, Cut, Worded, Stands, Stretch, Wording}
 use Rattle.emit.proofs.Storing.{put-comm}
 
 num-below : {b : ℕ} {xs : List ℕ} → Rising 0 b xs → (i : ℕ) → i < length xs → {start : ℕ} → start ≡ getD xs i 0 → numFrom 0 (take i xs) < 2 ^ start
@@ -38,56 +40,107 @@ num-below {b} {xs} r i h {start} a = num-lt start 0 (take i xs) (rw (zero-add, a
 pow-word : (k : ℕ) → 256 ^ (8 * k) ≡ 2 ^ (64 * k)
 pow-word k = let e : 8 * (8 * k) ≡ 64 * k = omega arith in rw (pow-bytes, e)
 
--- ---- the loop over the rows of one word: up to row j their digits are set
+-- ---- positions that stand one behind the other
 
-pub record Wording (xs : List ℕ) (k i j bits : ℕ) : Type 0 where
-  pub begun : i ≤ j
-  pub upto : j ≤ length xs
-  pub under : (m : ℕ) → m < j → getD xs m 0 < 64 * (k + 1)
-  pub small : bits < 2 ^ 64
-  pub so : numFrom 0 (take j xs) ≡ bits * 2 ^ (64 * k) + numFrom 0 (take i xs)
+-- two of them are at least as far apart as their places are
+apart : {b : ℕ} {xs : List ℕ} → Rising 0 b xs → (i j : ℕ) → i ≤ j → j < length xs → getD xs i 0 + (j - i) ≤ getD xs j 0
+apart {b} {xs} r i j h l = ⊎-elim (λ (e : i ≡ j). rw e (omega arith)) (λ (g : i < j). rising-apart r i j g l) (eq-or-lt-of-le h)
+
+module _ {b : ℕ} {xs : List ℕ} (r : Rising 0 b xs) where
+  pub indices : length xs ≤ b
+  indices = rw zero-add at (rising-room {a = 0} (omega arith) r)
+
+  module _ {j q : ℕ} (f : Stands xs j q) where
+    pub stretch-one : Stretch xs j q 1
+    stretch-one = record { some = omega arith; fits = omega arith; inside = omega (arith, f .0); each = λ m h. let z : m ≡ 0 = omega arith in rw (z, add-zero, add-zero) (f .1) }
+
+    -- the first n of m, by the last of those
+    pub stretch-upto : (m n : ℕ) → 1 ≤ n → n ≤ m → q % 64 + n ≤ 64 → Stands xs (j + (m - 1)) (q + (m - 1)) → Stretch xs j q n
+    stretch-upto m n some upto fits t =
+        record {
+          some = some;
+          fits = fits;
+          inside = omega (arith, t .0);
+          each = λ x h. let l : j + x < length xs = omega (arith, t .0) in omega (arith, apart r j (j + x) (omega arith) l, apart r (j + x) (j + (m - 1)) (omega arith) (t .0), f .1, t .1);
+        }
+
+    -- as many of 32 as the word has room for
+    pub stretch-least : {n : ℕ} → n ≡ min 32 (64 - q % 64) → Stands xs (j + 31) (q + 31) → Stretch xs j q n
+    stretch-least {n} e t = stretch-upto 32 n (omega (arith, e)) (omega (arith, e)) (omega (arith, e)) t
+
+  pub stretch-more : {j q n : ℕ} → Stretch xs j q n → q % 64 + n < 64 → Stands xs (j + n) (q + n) → Stretch xs j q (n + 1)
+  stretch-more {j} {q} {n} s h t =
+      record {
+        some = omega arith;
+        fits = omega arith;
+        inside = omega (arith, t .0);
+        each = λ m l. ⊎-elim (λ (z : m ≡ n). rw z (t .1)) (λ (z : m < n). s .each m z) (last-or-before (rw (add-one n) at l));
+      }
+
+take-stretch : (xs : List ℕ) (j q n : ℕ) → j + n ≤ length xs → ((m : ℕ) → m < n → getD xs (j + m) 0 ≡ q + m) → take (j + n) xs ≡ take j xs ++ range q n
+unfolding range
+take-stretch xs j q zero h e = rw (add-zero, append-nil)
+take-stretch xs j q (suc n) h e =
+    let more : range q (suc n) ≡ range q n ++ ((q + n) ∷ []) = ap (range q) (sym (add-one n)) ∙ range-append q n 1 in
+    rw (add-suc, take-suc xs (j + n) 0 (omega arith), e n (omega arith), take-stretch xs j q n (omega arith) (λ m l. e m (omega arith)), more, append-assoc)
+
+-- ---- on the way through the rows of one word
 
 module _ {xs : List ℕ} {k i : ℕ} (c : Cut xs k i) where
-  pub wording-start : Wording xs k i i 0
+  pub wording-start : Wording xs k i (record { bits = 0; next = i })
   wording-start = record { begun = omega arith; upto = c .upto; under = λ m h. omega (arith, c .under m h); small = pow-pos 64; so = omega arith }
 
-  module _ {j bits : ℕ} (s : Wording xs k i j bits) where
-    through : ((m : ℕ) → j ≤ m → m < length xs → 64 * (k + 1) ≤ getD xs m 0) → Worded xs k i (record { bits = bits; next = j })
+  module _ {w : Word} (s : Wording xs k i w) where
+    through : ((m : ℕ) → w .next ≤ m → m < length xs → 64 * (k + 1) ≤ getD xs m 0) → Worded xs k i w
     through o =
         let e : 64 * (k + 1) ≡ 64 + 64 * k = omega arith in
-        let l : bits * 2 ^ (64 * k) + numFrom 0 (take i xs) < 2 ^ 64 * 2 ^ (64 * k) = digits-lt (s .small) (c .low) in
+        let l : w .bits * 2 ^ (64 * k) + numFrom 0 (take i xs) < 2 ^ 64 * 2 ^ (64 * k) = digits-lt (s .small) (c .low) in
         record { cut = record { upto = s .upto; under = s .under; over = o; low = rw (s .so, e, pow-add 2 64 (64 * k)) l }; so = s .so }
 
-    pub wording-end : length xs ≤ j → Worded xs k i (record { bits = bits; next = j })
+    pub wording-end : length xs ≤ w .next → Worded xs k i w
     wording-end h = through (λ m g l. absurd (omega arith))
 
-    module _ {b q : ℕ} (r : Rising 0 b xs) (h : j < length xs) (a : q ≡ getD xs j 0) where
-      pub wording-stop : eqb (q / 64) k ≡ false → Worded xs k i (record { bits = bits; next = j })
-      wording-stop e =
-          let l : 64 * k ≤ q = rw a (c .over j (s .begun) h) in
-          let g : k < q / 64 = strictly (omega arith) (λ (z : k ≡ q / 64). never (eq-eqb (q / 64) k (sym z)) e) in
-          through (λ m u v. ⊎-elim (λ (z : j ≡ m). rw (← z, ← a) (omega arith)) (λ (z : j < m). omega (arith, rising-strict r j m z v)) (eq-or-lt-of-le u))
+    pub wording-stop : {b q : ℕ} → Rising 0 b xs → Stands xs (w .next) q → eqb (q / 64) k ≡ false → Worded xs k i w
+    wording-stop {b} {q} r f e =
+        let l : 64 * k ≤ q = rw (← f .1) (c .over (w .next) (s .begun) (f .0)) in
+        let g : k < q / 64 = strictly (omega arith) (λ (z : k ≡ q / 64). never (eq-eqb (q / 64) k (sym z)) e) in
+        through (λ m u v. omega (arith, apart r (w .next) m u v, f .1))
 
-      pub wording-next : {more : ℕ} → eqb (q / 64) k ≡ true → more ≡ withDigit bits q → Wording xs k i (j + 1) more
-      wording-next {more} e w =
-          let d : q / 64 ≡ k = eqb-true (q / 64) k e in
-          let n = q % 64 in
-          let f : q ≡ n + 64 * k = omega arith in
-          let u : numFrom 0 (take j xs) < 2 ^ (n + 64 * k) = subst (λ (x : ℕ). numFrom 0 (take j xs) < 2 ^ x) f (num-below r j h a) in
-          let v : bits < 2 ^ n = rw (s .so, high bits (64 * k) (c .low)) at (shr-lt n (64 * k) u) in
-          let t : more ≡ 2 ^ n + bits = w ∙ rw one-mul at (or-shifted-r 1 n bits v) in
-          let m : 2 ^ suc n ≤ 2 ^ 64 = pow-mono {i = suc n} {j = 64} (omega arith) in
-          let y : 2 ^ suc n ≡ 2 ^ n * 2 = pow-suc 2 n in
-          let one : numFrom 0 (take (j + 1) xs) ≡ numFrom 0 (take j xs) + 2 ^ getD xs j 0 = rw (add-one j, take-suc xs j 0 h, num-snoc, sub-zero) in
-          let two : 2 ^ getD xs j 0 ≡ 2 ^ n * 2 ^ (64 * k) = ap (λ (x : ℕ). 2 ^ x) (sym a ∙ f) ∙ pow-add 2 n (64 * k) in
-          let three : more * 2 ^ (64 * k) ≡ 2 ^ n * 2 ^ (64 * k) + bits * 2 ^ (64 * k) = rw t (add-mul (2 ^ n) bits (2 ^ (64 * k))) in
-          record {
-            begun = omega (arith, s .begun);
-            upto = omega arith;
-            under = λ x l. ⊎-elim (λ (z : x ≡ j). rw (z, ← a) (omega arith)) (λ (z : x < j). s .under x z) (last-or-before (rw (add-one j) at l));
-            small = omega (arith, v, t, m, y);
-            so = omega (arith, one, two, three, s .so);
-          }
+    -- one mask for all that stand one behind the other
+    pub wording-run : {b q n : ℕ} → Rising 0 b xs → Stretch xs (w .next) q n → eqb (q / 64) k ≡ true → Wording xs k i (withRun w q n)
+    wording-run {b} {q} {n} r t e =
+        let j = w .next in
+        let d : q / 64 ≡ k = eqb-true (q / 64) k e in
+        let p = q % 64 in
+        let f : q ≡ p + 64 * k = omega arith in
+        let z : getD xs j 0 ≡ q = rw (add-zero, add-zero) at (t .each 0 (omega (arith, t .some))) in
+        let u : numFrom 0 (take j xs) < 2 ^ (p + 64 * k) = subst (λ (x : ℕ). numFrom 0 (take j xs) < 2 ^ x) f (num-below r j (omega (arith, t .some, t .inside)) (sym z)) in
+        let v : w .bits < 2 ^ p = rw (s .so, high (w .bits) (64 * k) (c .low)) at (shr-lt p (64 * k) u) in
+        let ones = numFrom 0 (range p n) in
+        let o : bitOr (w .bits) ones ≡ ones + w .bits = range-or p n (w .bits) v in
+        let m : 2 ^ (n + p) ≤ 2 ^ 64 = pow-mono {i = n + p} {j = 64} (omega (arith, t .fits)) in
+        let one : numFrom 0 (take (j + n) xs) ≡ numFrom 0 (take j xs) + numFrom 0 (range q n) = rw (take-stretch xs j q n (t .inside) (t .each), num-append) in
+        let two : numFrom 0 (range q n) ≡ ones * 2 ^ (64 * k) = ap (λ (x : ℕ). numFrom 0 (range x n)) f ∙ range-up p (64 * k) n in
+        let three : (ones + w .bits) * 2 ^ (64 * k) ≡ ones * 2 ^ (64 * k) + w .bits * 2 ^ (64 * k) = add-mul ones (w .bits) (2 ^ (64 * k)) in
+        record {
+          begun = omega (arith, s .begun);
+          upto = t .inside;
+          under = λ x l. ⊎-elim (λ (y : x < j). s .under x y) (λ (y : j ≤ x). let a : j + (x - j) ≡ x = omega arith in omega (arith, rw a at (t .each (x - j) (omega arith)), t .fits)) (order x j);
+          small = rw o (omega (arith, range-lt p n (w .bits) v, m));
+          so = rw o (omega (arith, one, two, three, s .so));
+        }
+
+-- the front of the word
+module _ {xs : List ℕ} {k i : ℕ} (c : Cut xs k i) where
+  pub wording-front : {b q n : ℕ} {m : Word} → Rising 0 b xs → Stretch xs i q n → eqb (q / 64) k ≡ true → m ≡ withRun (record { bits = 0; next = i }) q n → Wording xs k i m
+  wording-front r t e d = rw d (wording-run c (wording-start c) r t e)
+
+  -- a single row behind it: a mask of one
+  pub wording-next : {j bits b q more : ℕ} → Wording xs k i (record { bits = bits; next = j }) → Rising 0 b xs → Stands xs j q → eqb (q / 64) k ≡ true → more ≡ withDigit bits q → Wording xs k i (record { bits = more; next = j + 1 })
+  unfolding numFrom range
+  wording-next {j} {bits} {b} {q} {more} s r f e d =
+      let one : numFrom 0 (range (q % 64) 1) ≡ 2 ^ (q % 64) = rw sub-zero (omega arith) in
+      rw (d, ← one) (wording-run c s r (stretch-one r f) e)
 
 pub cut-start : (xs : List ℕ) → Cut xs 0 0
 unfolding numFrom

@@ -7,6 +7,7 @@ use lib.Bits.{bitOr}
 use lib.Dec.{eqb}
 use lib.ListN.{length, getD, take}
 use Rattle.fields.specs.Le.{put}
+use Rattle.model.specs.Lists.{range}
 use Rattle.model.specs.Tests.{pick}
 use Rattle.word.specs.Bits.{numFrom}
 use Rattle.emit.specs.declared.Word.{Word}
@@ -14,6 +15,10 @@ use Rattle.emit.specs.declared.Word.{Word}
 -- bits with the digit of a position set
 abbrev pub withDigit : ℕ → ℕ → ℕ
 withDigit bits position = bitOr bits (2 ^ (position % 64))
+
+-- a word with the digits of n positions from the given one on, and the index behind their rows
+abbrev pub withRun : Word → ℕ → ℕ → Word
+withRun word position n = record { bits = bitOr (word .bits) (numFrom 0 (range (position % 64) n)); next = word .next + n }
 
 -- xs with the rows before the word k stored for its group, where the word begins one; the numbers of groups stand from at on
 unfoldable pub countedAt : List ℕ → ℕ → ℕ → ℕ → List ℕ
@@ -30,3 +35,22 @@ pub record Cut (xs : List ℕ) (k i : ℕ) : Type 0 where
 pub record Worded (xs : List ℕ) (k i : ℕ) (r : Word) : Type 0 where
   pub cut : Cut xs (k + 1) (r .next)
   pub so : numFrom 0 (take (r .next) xs) ≡ r .bits * 2 ^ (64 * k) + numFrom 0 (take i xs)
+
+-- the position p stands at index m
+abbrev pub Stands : List ℕ → ℕ → ℕ → Type 0
+Stands xs m p = (m < length xs) × (getD xs m 0 ≡ p)
+
+-- n positions from index j on stand one behind the other, the first of them q, all in the word of q
+pub record Stretch (xs : List ℕ) (j q n : ℕ) : Type 0 where
+  pub some : 1 ≤ n
+  pub fits : q % 64 + n ≤ 64
+  pub inside : j + n ≤ length xs
+  pub each : (m : ℕ) → m < n → getD xs (j + m) 0 ≡ q + m
+
+-- on the way through the positions of the word k, from index i on: the digits of those before the next are set
+pub record Wording (xs : List ℕ) (k i : ℕ) (w : Word) : Type 0 where
+  pub begun : i ≤ w .next
+  pub upto : w .next ≤ length xs
+  pub under : (m : ℕ) → m < w .next → getD xs m 0 < 64 * (k + 1)
+  pub small : w .bits < 2 ^ 64
+  pub so : numFrom 0 (take (w .next) xs) ≡ w .bits * 2 ^ (64 * k) + numFrom 0 (take i xs)

@@ -1,23 +1,29 @@
 // Bodies from rows, written into a lent slice. Everything that writes answers the place behind what it wrote.
+// Here is what rows of either width share; the loops over u64 rows and over u16 ordinals are modules.
 ghost use mathlib.Core.Path.{_≡_};
 ghost use mathlib.Core.List.{[], _∷_};
-ghost use Prim.Native.Nat.{_+_, _-_, _*_, _/_, _≤_};
+ghost use Prim.Native.Nat.{_+_, _*_, _/_, _%_, _≤_, min};
 ghost use lib.Dec.{eqb};
 ghost use lib.ListN.{length};
 ghost use Rattle.fields.specs.Le.{put, widthOf};
-ghost use Rattle.model.specs.Lists.{Rising, range, run, positionsOf};
+ghost use Rattle.model.specs.Lists.{range, run};
 ghost use Rattle.lists.specs.Lists.{listLayout};
-ghost use Rattle.runs.specs.Runs.{runsBytes, runsLayout};
-ghost use Rattle.missing.specs.Missing.{missingLayout};
-ghost use Rattle.bitmap.specs.Body.{wordsOf, bitmapLength, bitmapLayout};
+ghost use Rattle.runs.specs.Runs.{runsBytes};
+ghost use Rattle.bitmap.specs.Body.{wordsOf};
 ghost use Rattle.emit.specs.Written.{Written};
-ghost use Rattle.emit.specs.Words.{withDigit, countedAt, Cut, Worded};
+ghost use Rattle.emit.specs.Words.{withDigit, withRun, countedAt};
 
-fn width(wide: bool) -> usize
-    ensures { λ r. ⌜ r ≡ widthOf wide ⌝ }
-{
-    if wide { 4 } else { 2 }
-}
+mod ordinals;
+mod rows;
+
+pub use ordinals::bitmap_ordinals;
+pub use ordinals::list_ordinals;
+pub use ordinals::missing_ordinals;
+pub use ordinals::runs_ordinals;
+pub use rows::bitmap_rows;
+pub use rows::list_rows;
+pub use rows::missing_rows;
+pub use rows::runs_rows;
 
 // A field of 4 bytes where `wide`, else of 2: the lowest digits of v that it has room for.
 fn put_field(out: &mut [u8], at: usize, v: u32, wide: bool)
@@ -37,7 +43,7 @@ pub fn list_run(out: &mut [u8], at: usize, start: u32, size: u32, wide: bool) ->
     requires { ⌜ (at + size * widthOf wide ≤ length (now out)) × (start + size ≤ 4294967296) ⌝ }
     ensures { λ r. ⌜ Written (listLayout (widthOf wide) (range start size)) at (now (out .entry)) (now (out .exit)) r ⌝ }
 {
-    let w = width(wide);
+    let w = fields::width(wide);
     let mut p = at;
     let mut i = 0;
     while i < size {
@@ -55,7 +61,7 @@ pub fn run_entry(out: &mut [u8], at: usize, start: u32, size: u16, before: u16, 
     requires { ⌜ at + (widthOf wide + 4) ≤ length (now out) ⌝ }
     ensures { λ r. ⌜ Written (runsBytes (widthOf wide) before (run start size ∷ [])) at (now (out .entry)) (now (out .exit)) r ⌝ }
 {
-    let p = at + width(wide);
+    let p = at + fields::width(wide);
     put_field(out, at, start, wide);
     fields::put16(out, p, size);
     fields::put16(out, p + 2, before);
@@ -75,6 +81,23 @@ fn with_digit(bits: u64, position: u32) -> u64
     ensures { λ r. ⌜ r ≡ withDigit bits position ⌝ }
 {
     bits | (1 << (position % 64))
+}
+
+// A word with n more rows, which stand one behind the other from a position on: one mask, however many they are.
+fn with_run(word: Word, position: u32, n: usize) -> Word
+    requires { ⌜ (1 ≤ n) × (position % 64 + n ≤ 64) × (word .next ≤ 4294967295) ⌝ }
+    ensures { λ r. ⌜ r ≡ withRun word position n ⌝ }
+{
+    Word {
+        bits: word.bits | word::mask(position % 64, n as u32),
+        next: word.next + n,
+    }
+}
+
+fn least(a: usize, b: usize) -> usize
+    ensures { λ r. ⌜ r ≡ min a b ⌝ }
+{
+    if a < b { a } else { b }
 }
 
 // Whether a position stands in the word k.
@@ -105,208 +128,4 @@ fn put_before(out: &mut [u8], at: usize, k: usize, rows: usize)
     if k % 4 == 0 {
         fields::put16(out, at + 2 * (k / 4), (rows % 65536) as u16);
     }
-}
-
-// ---- u64 rows, counted from base: the rows of a whole set, or of one segment as a part of its own
-
-pub fn list_rows(out: &mut [u8], at: usize, rows: &[u64], base: u64, wide: bool) -> usize
-    requires { ⌜ (Rising base (base + 4294967295) (now rows)) × (at + length (listLayout (widthOf wide) (positionsOf base (now rows))) ≤ length (now out)) ⌝ }
-    ensures { λ r. ⌜ Written (listLayout (widthOf wide) (positionsOf base (now (rows .entry)))) at (now (out .entry)) (now (out .exit)) r ⌝ }
-{
-    let w = width(wide);
-    let mut p = at;
-    let mut i = 0;
-    while i < rows.len() {
-        put_field(out, p, cost::position(rows[i], base), wide);
-        p += w;
-        i += 1;
-    }
-    p
-}
-
-pub fn runs_rows(out: &mut [u8], at: usize, rows: &[u64], base: u64, wide: bool) -> usize
-    requires { ⌜ (Rising base (base + 4294967295) (now rows)) × (length (now rows) ≤ 65535) × (at + length (runsLayout (widthOf wide) (positionsOf base (now rows))) ≤ length (now out)) ⌝ }
-    ensures { λ r. ⌜ Written (runsLayout (widthOf wide) (positionsOf base (now (rows .entry)))) at (now (out .entry)) (now (out .exit)) r ⌝ }
-{
-    let mut p = at;
-    let mut i = 0;
-    while i < rows.len() {
-        let j = cost::run_end(rows, i);
-        p = run_entry(
-            out,
-            p,
-            cost::position(rows[i], base),
-            (j - i) as u16,
-            i as u16,
-            wide,
-        );
-        i = j;
-    }
-    p
-}
-
-// The holes before each run, and behind the last up to the span.
-pub fn missing_rows(out: &mut [u8], at: usize, rows: &[u64], base: u64, span: u32) -> usize
-    requires { ⌜ (Rising base (base + span) (now rows)) × (at + length (missingLayout span (positionsOf base (now rows))) ≤ length (now out)) ⌝ }
-    ensures { λ r. ⌜ Written (missingLayout span (positionsOf base (now (rows .entry)))) at (now (out .entry)) (now (out .exit)) r ⌝ }
-{
-    let mut p = at;
-    let mut from: u32 = 0;
-    let mut i = 0;
-    while i < rows.len() {
-        let j = cost::run_end(rows, i);
-        let first = cost::position(rows[i], base);
-        p = list_run(out, p, from, first - from, false);
-        from = first + (j - i) as u32;
-        i = j;
-    }
-    list_run(out, p, from, span - from, false)
-}
-
-// The digits of the word k, whose first row is that of index i.
-fn word_rows(rows: &[u64], i: usize, base: u64, k: usize) -> Word
-    requires { ⌜ (Rising base (base + 4294967295) (now rows)) × Cut (positionsOf base (now rows)) k i ⌝ }
-    ensures { λ r. ⌜ Worded (positionsOf base (now (rows .entry))) k i r ⌝ }
-{
-    let mut bits: u64 = 0;
-    let mut j = i;
-    while j < rows.len() {
-        let q = cost::position(rows[j], base);
-        if !in_word(q, k) {
-            return Word {
-                bits: bits,
-                next: j,
-            };
-        }
-        bits = with_digit(bits, q);
-        j += 1;
-    }
-    Word {
-        bits: bits,
-        next: j,
-    }
-}
-
-pub fn bitmap_rows(out: &mut [u8], at: usize, rows: &[u64], base: u64, span: u32) -> usize
-    requires { ⌜ (Rising base (base + span) (now rows)) × (at + bitmapLength span ≤ length (now out)) ⌝ }
-    ensures { λ r. ⌜ Written (bitmapLayout span (positionsOf base (now (rows .entry)))) at (now (out .entry)) (now (out .exit)) r ⌝ }
-{
-    let words = words_of(span);
-    let mut p = at + 2 * groups_of(words);
-    let mut i = 0;
-    let mut k = 0;
-    while k < words {
-        let word = word_rows(rows, i, base, k);
-        put_before(out, at, k, i);
-        fields::put64(out, p, word.bits);
-        i = word.next;
-        p += 8;
-        k += 1;
-    }
-    p
-}
-
-// ---- the same of u16 ordinals
-
-fn position16(ordinal: u16, base: u16) -> u32
-    requires { ⌜ base ≤ ordinal ⌝ }
-    ensures { λ r. ⌜ r ≡ ordinal - base ⌝ }
-{
-    (ordinal - base) as u32
-}
-
-pub fn list_ordinals(out: &mut [u8], at: usize, ordinals: &[u16], base: u16, wide: bool) -> usize
-    requires { ⌜ (Rising base (base + 4294967295) (now ordinals)) × (at + length (listLayout (widthOf wide) (positionsOf base (now ordinals))) ≤ length (now out)) ⌝ }
-    ensures { λ r. ⌜ Written (listLayout (widthOf wide) (positionsOf base (now (ordinals .entry)))) at (now (out .entry)) (now (out .exit)) r ⌝ }
-{
-    let w = width(wide);
-    let mut p = at;
-    let mut i = 0;
-    while i < ordinals.len() {
-        put_field(out, p, position16(ordinals[i], base), wide);
-        p += w;
-        i += 1;
-    }
-    p
-}
-
-pub fn runs_ordinals(out: &mut [u8], at: usize, ordinals: &[u16], base: u16, wide: bool) -> usize
-    requires { ⌜ (Rising base (base + 4294967295) (now ordinals)) × (length (now ordinals) ≤ 65535) × (at + length (runsLayout (widthOf wide) (positionsOf base (now ordinals))) ≤ length (now out)) ⌝ }
-    ensures { λ r. ⌜ Written (runsLayout (widthOf wide) (positionsOf base (now (ordinals .entry)))) at (now (out .entry)) (now (out .exit)) r ⌝ }
-{
-    let mut p = at;
-    let mut i = 0;
-    while i < ordinals.len() {
-        let j = cost::run_end16(ordinals, i);
-        p = run_entry(
-            out,
-            p,
-            position16(ordinals[i], base),
-            (j - i) as u16,
-            i as u16,
-            wide,
-        );
-        i = j;
-    }
-    p
-}
-
-pub fn missing_ordinals(out: &mut [u8], at: usize, ordinals: &[u16], base: u16, span: u32) -> usize
-    requires { ⌜ (Rising base (base + span) (now ordinals)) × (at + length (missingLayout span (positionsOf base (now ordinals))) ≤ length (now out)) ⌝ }
-    ensures { λ r. ⌜ Written (missingLayout span (positionsOf base (now (ordinals .entry)))) at (now (out .entry)) (now (out .exit)) r ⌝ }
-{
-    let mut p = at;
-    let mut from: u32 = 0;
-    let mut i = 0;
-    while i < ordinals.len() {
-        let j = cost::run_end16(ordinals, i);
-        let first = position16(ordinals[i], base);
-        p = list_run(out, p, from, first - from, false);
-        from = first + (j - i) as u32;
-        i = j;
-    }
-    list_run(out, p, from, span - from, false)
-}
-
-// The digits of the word k, whose first row is that of index i.
-fn word_ordinals(ordinals: &[u16], i: usize, base: u16, k: usize) -> Word
-    requires { ⌜ (Rising base (base + 4294967295) (now ordinals)) × Cut (positionsOf base (now ordinals)) k i ⌝ }
-    ensures { λ r. ⌜ Worded (positionsOf base (now (ordinals .entry))) k i r ⌝ }
-{
-    let mut bits: u64 = 0;
-    let mut j = i;
-    while j < ordinals.len() {
-        let q = position16(ordinals[j], base);
-        if !in_word(q, k) {
-            return Word {
-                bits: bits,
-                next: j,
-            };
-        }
-        bits = with_digit(bits, q);
-        j += 1;
-    }
-    Word {
-        bits: bits,
-        next: j,
-    }
-}
-
-pub fn bitmap_ordinals(out: &mut [u8], at: usize, ordinals: &[u16], base: u16, span: u32) -> usize
-    requires { ⌜ (Rising base (base + span) (now ordinals)) × (at + bitmapLength span ≤ length (now out)) ⌝ }
-    ensures { λ r. ⌜ Written (bitmapLayout span (positionsOf base (now (ordinals .entry)))) at (now (out .entry)) (now (out .exit)) r ⌝ }
-{
-    let words = words_of(span);
-    let mut p = at + 2 * groups_of(words);
-    let mut i = 0;
-    let mut k = 0;
-    while k < words {
-        let word = word_ordinals(ordinals, i, base, k);
-        put_before(out, at, k, i);
-        fields::put64(out, p, word.bits);
-        i = word.next;
-        p += 8;
-        k += 1;
-    }
-    p
 }

@@ -1,16 +1,16 @@
 -- What holds where tests 12, 3 and 2 passed: counts that cannot wrap, an entry in the table for each seed.
 -- Assumes nothing.
-use mathlib.Core.Path.{_≡_, refl, sym, ap, _∙_}
+use mathlib.Core.Path.{_≡_, refl, sym, _∙_}
 use mathlib.Core.Bool.{Bool, true, false}
 use mathlib.Core.Logic.{⊎-elim}
 use mathlib.Core.List.{List}
-use Prim.Native.Nat.{ℕ, zero, suc, _+_, _-_, _/_, _<_, _≤_}
+use Prim.Native.Nat.{ℕ, zero, suc, _+_, _-_, _/_, _≤_}
 use native.Mathlib.Omega.{arith}
 use lib.Dec.{eqb, ltb}
 use lib.ListN.{length, length-set}
 use borrow.Author.Tests.{ltb-false, le-ltb, eqb-true, eqb-false, eq-eqb, ne-eqb}
 use Rattle.model.specs.Tests.{pick}
-use Rattle.model.specs.Answers.{Answer, accepted, refused}
+use Rattle.model.specs.Answers.{accepted, refused}
 use Rattle.model.proofs.Tests.{either, never, pick-true, pick-false}
 use Rattle.gather.specs.declared.Gatherer.{Gatherer}
 use Rattle.gather.specs.Gather.{valuesOf, answered, kept, impossible, above, early, late, orElse, joins, added, addedTo, rowNumber, Counted}

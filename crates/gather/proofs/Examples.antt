@@ -1,8 +1,7 @@
 -- Gathering on document 01's pages, by computation.
 -- Assumes nothing.
 use mathlib.Core.Path.{_≡_, refl}
-use mathlib.Core.List.{List, [], _∷_}
-use Prim.Native.Nat.{ℕ}
+use mathlib.Core.List.{[], _∷_}
 use Rattle.model.specs.Tests.{pick, both, all}
 use Rattle.model.specs.Answers.{accepted, refused}
 use Rattle.gather.specs.declared.Gatherer.{Gatherer}

@@ -4,22 +4,21 @@ use mathlib.Core.Path.{_≡_, refl, sym, ap, _∙_}
 use mathlib.Core.Bool.{Bool, true, false}
 use mathlib.Core.Logic.{⊎-elim}
 use mathlib.Core.List.{List, [], _∷_}
-use Prim.Native.Nat.{ℕ, zero, suc, _+_, _-_, _/_, _<_, _≤_}
+use Prim.Native.Nat.{ℕ, zero, suc, _+_, _-_, _<_, _≤_}
 use native.Mathlib.Nat.{suc-add}
-use native.Mathlib.Numerals.{add-one}
 use native.Mathlib.Omega.{arith}
-use lib.Dec.{eqb, ltb}
-use lib.ListN.{length, getD}
-use borrow.Author.Tests.{lt-ltb, le-ltb, ltb-true, ltb-false, eqb-false, eq-eqb, ne-eqb}
-use Rattle.model.specs.Tests.{pick, both, all}
-use Rattle.model.specs.Answers.{Answer, accepted, refused}
-use Rattle.model.proofs.Tests.{either, never, pick-true, pick-false, both-true, both-left, both-right, all-at, all-from}
+use lib.Dec.{ltb}
+use lib.ListN.{length}
+use borrow.Author.Tests.{ltb-true, ne-eqb}
+use Rattle.model.specs.Tests.{both, all}
+use Rattle.model.specs.Answers.{Answer, accepted}
+use Rattle.model.proofs.Tests.{either, pick-false, both-true, both-left, both-right, all-at, all-from}
 use Rattle.gather.specs.declared.Gatherer.{Gatherer}
-use Rattle.gather.specs.Gather.{valuesOf, answered, impossible, above, early, late, orElse, joins, added, addedTo, rowNumber, rowAnswer, rowTable, upAt, rises, firstOf, oneSeed, addedAll, addedAllTo, paged, someNumber, pageAnswer, pageTable, Counted}
+use Rattle.gather.specs.Gather.{valuesOf, answered, above, joins, added, addedTo, rowNumber, rowAnswer, rowTable, upAt, rises, firstOf, oneSeed, addedAll, addedAllTo, paged, someNumber, pageAnswer, pageTable, Counted}
 use Rattle.gather.proofs.Answers.{ofValues}
 use Rattle.gather.proofs.Singly.{entries-grow}
 use Rattle.gather.proofs.Pages.{some-answer, some-table, paged-rows, paged-rows-to}
-use Rattle.gather.proofs.Admitted.{Able, Passed, passed, passing, fits, fitting, neither, second-decides, answered-yes, kept-new, After, after, joined, begun, added-joins, added-begins, joins-some, added-length}
+use Rattle.gather.proofs.Admitted.{Able, Passed, passed, passing, fits, fitting, neither, second-decides, answered-yes, kept-new, after, added-joins, added-begins, joins-some, added-length}
 
 -- rows accepted one by one, from a record and a table to the record and the table at the end
 pub data InTurn : Gatherer → List ℕ → List ℕ → Gatherer → List ℕ → Type 0 where

@@ -1,19 +1,17 @@
 -- A page: empty or not, one seed or row by row, and what holds where no test refused it.
 -- Assumes nothing.
-use mathlib.Core.Path.{_≡_, refl, sym, ap, _∙_}
-use mathlib.Core.Bool.{Bool, true, false}
+use mathlib.Core.Path.{_≡_, refl}
+use mathlib.Core.Bool.{true, false}
 use mathlib.Core.Logic.{⊎-elim}
 use mathlib.Core.List.{List}
 use Prim.Native.Nat.{ℕ, zero, suc, _+_, _<_, _≤_}
 use native.Mathlib.Omega.{arith}
-use lib.Dec.{eqb}
 use lib.ListN.{length, set}
 use borrow.Author.Tests.{eq-eqb, ne-eqb}
-use Rattle.model.specs.Tests.{both, pick}
-use Rattle.model.specs.Answers.{Answer}
+use Rattle.model.specs.Tests.{pick}
 use Rattle.model.proofs.Tests.{either, pick-true, pick-false}
 use Rattle.gather.specs.declared.Gatherer.{Gatherer}
-use Rattle.gather.specs.Gather.{answered, kept, impossible, above, rises, firstOf, oneSeed, addedAll, addedAllTo, seeded, paged, pagedTo, someNumber, pageNumber, pageAnswer, pageTable, Paging}
+use Rattle.gather.specs.Gather.{answered, kept, impossible, oneSeed, addedAll, addedAllTo, seeded, paged, pagedTo, someNumber, pageNumber, pageAnswer, pageTable, Paging}
 use Rattle.gather.proofs.Admitted.{neither, passed, fits}
 use Rattle.gather.proofs.Singly.{entries-few}
 

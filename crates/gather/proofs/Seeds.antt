@@ -1,23 +1,21 @@
 -- What gathering makes passes planning's test 4 for the rows that were gathered.
 -- Assumes nothing.
 use mathlib.Core.Path.{_≡_, refl, sym, ap, _∙_}
-use mathlib.Core.Bool.{Bool, true, false}
+use mathlib.Core.Bool.{true}
 use mathlib.Core.Logic.{⊎-elim}
 use mathlib.Core.List.{List, [], _∷_, _++_, append-nil}
 use Prim.Native.Nat.{ℕ, zero, suc, _+_, _-_, _/_, _<_, _≤_}
-use native.Mathlib.Nat.{le-trans, eq-or-lt-of-le}
+use native.Mathlib.Nat.{eq-or-lt-of-le}
 use native.Mathlib.Numerals.{add-one}
 use native.Mathlib.Omega.{arith}
-use lib.Dec.{eqb, leb, ltb}
-use lib.ListN.{length, getD, set, take, length-append, length-set, length-take, List·getD-append}
+use lib.ListN.{length, getD, set, take, length-append, length-set, List·getD-append}
 use lib.Seq.{getD-set-same, getD-set-other, getD-append-add, getD-take, length-take-le, append-snoc}
-use borrow.Author.Tests.{lt-ltb, le-leb, eq-eqb, ltb-true, eqb-true}
-use Rattle.model.specs.Tests.{pick, both, all}
-use Rattle.model.proofs.Tests.{either, both-true, all-from, last-or-before, pick-true, pick-false}
+use borrow.Author.Tests.{lt-ltb, le-leb, eq-eqb, ltb-true}
+use Rattle.model.proofs.Tests.{either, both-true, all-from, last-or-before}
 use Rattle.gather.specs.declared.Gatherer.{Gatherer}
 use Rattle.gather.specs.Gather.{joins, added, addedTo, rowNumber, firstOf, lastOf, oneSeed, addedAll, addedAllTo, seeded, paged, pagedTo, Counted, Paging}
 use Rattle.gather.specs.Seeds.{startOf, seedAt, seedsFit}
-use Rattle.gather.proofs.Admitted.{after, joined, begun, added-joins, added-begins, joins-some, joins-window, row-admitted, after-counted, added-length}
+use Rattle.gather.proofs.Admitted.{joined, begun, added-joins, added-begins, joins-some, joins-window, row-admitted, after-counted, added-length}
 use Rattle.gather.proofs.Singly.{entries-grow}
 use Rattle.gather.proofs.Pages.{paged-one, paged-rows, paged-one-to, paged-rows-to}
 

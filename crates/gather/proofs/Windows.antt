@@ -3,22 +3,21 @@
 use mathlib.Core.Path.{_≡_, refl, sym, ap, _∙_}
 use mathlib.Core.Bool.{Bool, true, false}
 use mathlib.Core.Logic.{⊎-elim}
-use mathlib.Core.List.{List, [], _∷_, _++_, append-assoc, append-nil}
+use mathlib.Core.List.{List, [], _∷_, _++_}
 use Prim.Native.Nat.{ℕ, zero, suc, _+_, _-_, _/_, _<_, _≤_}
 use native.Mathlib.Numerals.{add-one}
 use native.Mathlib.Omega.{arith}
 use lib.Dec.{eqb}
-use lib.ListN.{length, getD, set, take, drop, length-append}
-use lib.Seq.{take-suc, take-all, set-set, set-at}
+use lib.ListN.{length, getD, set, take, length-append}
+use lib.Seq.{take-suc, take-all, set-set}
 use borrow.Author.Tests.{eq-eqb, ne-eqb, eqb-true}
-use Rattle.model.specs.Tests.{pick}
 use Rattle.model.specs.Answers.{over}
 use Rattle.model.proofs.Tests.{either, pick-true, pick-false}
-use Rattle.model.proofs.Writing.{over-none, over-next}
+use Rattle.model.proofs.Writing.{over-next}
 use Rattle.gather.specs.declared.Gatherer.{Gatherer}
 use Rattle.gather.specs.Gather.{joins, added, addedTo, addedAll, addedAllTo}
 use Rattle.gather.specs.Seeds.{cuts, windows}
-use Rattle.gather.proofs.Admitted.{joined, begun, added-joins, added-begins}
+use Rattle.gather.proofs.Admitted.{begun, added-joins, added-begins}
 
 -- ---- rows after rows
 

@@ -1,10 +1,10 @@
 // Words of 64 binary digits. What a word names is one list, `bitsOf word`: its set places, rising.
 ghost use mathlib.Core.Path.{_≡_};
 ghost use mathlib.Core.List.{_∷_};
-ghost use Prim.Native.Nat.{_<_, _≤_};
+ghost use Prim.Native.Nat.{_+_, _<_, _≤_};
 ghost use lib.ListN.{length, getD, drop};
-ghost use Rattle.model.specs.Lists.{has};
-ghost use Rattle.word.specs.Bits.{bitsFrom, bitsOf, placeIn, Wanted, Halved};
+ghost use Rattle.model.specs.Lists.{has, range};
+ghost use Rattle.word.specs.Bits.{bitsFrom, bitsOf, numFrom, placeIn, Wanted, Halved};
 
 // How many places below `place` are set.
 pub fn ones_below(word: u64, place: u32) -> u32
@@ -27,6 +27,14 @@ pub fn is_set(word: u64, place: u32) -> bool
     ensures { λ r. ⌜ r ≡ has (bitsOf word) place ⌝ }
 {
     (word >> place) % 2 == 1
+}
+
+// The word whose n places from `low` on are set.
+pub fn mask(low: u32, n: u32) -> u64
+    requires { ⌜ (1 ≤ n) × (low + n ≤ 64) ⌝ }
+    ensures { λ r. ⌜ r ≡ numFrom 0 (range low n) ⌝ }
+{
+    (18446744073709551615 >> (64 - n)) << low
 }
 
 // A half of a part of a word, in which the set place number `k` is wanted; its lowest digit is counted from `base`.

@@ -1,6 +1,6 @@
 -- `emit::list_run` meets its contract: item after item.
 -- Assumes nothing.
-use Prim.Native.Nat.{_+_, _-_}
+use Prim.Native.Nat.{_-_}
 use native.Mathlib.Omega.{arith}
 use borrow.Author.Needs.{needs}
 use Rattle.fields.specs.Le.{widthOf}
@@ -32,6 +32,6 @@ list-run-spec =
     (λ c. omega arith)
     (λ c.
     let k = c .before .before .before .before in
-    listing-next _ _ _ _ _ (k .before .loop .inv) (k .loop-test .taken) (c .before .before .put-field .ensures) (rw (k .before .before .width .ensures)))
+    listing-next _ _ _ _ _ (k .before .loop .inv) (k .loop-test .taken) (c .before .before .put-field .ensures) (rw (k .before .before .width .ensures .0)))
     (λ c. emitting-length (c .before .loop .inv .so))
     (λ c. listing-end _ _ _ _ _ (c .before .loop .inv) (c .loop-test .left)))

@@ -1,6 +1,6 @@
 -- `gather::gather_row` meets its contract.
 -- Assumes nothing.
-use mathlib.Core.Path.{sym, ap, _∙_}
+use mathlib.Core.Path.{sym, _∙_}
 use borrow.Author.Needs.{needs}
 use Rattle.gather.specs.Gather.{answerOf, rowAnswer, rowTable}
 use Rattle.gather.proofs.Admitted.{answered-yes, answered-no, kept-new, kept-old, row-admitted}

@@ -5,7 +5,7 @@ use mathlib.Core.Bool.{true, false}
 use native.Mathlib.Omega.{arith}
 use borrow.Author.Needs.{needs}
 use Rattle.gather.specs.declared.Gatherer.{Gatherer}
-use Rattle.gather.specs.Gather.{oneSeed, seeded, addedAll}
+use Rattle.gather.specs.Gather.{oneSeed, seeded}
 use Rattle.gather.proofs.Pages.{paged-one, paged-rows, paged-one-to, paged-rows-to}
 use Rattle.gather.proofs.put_page.Statement.{statement}
 use Rattle.gather.proofs.put_page.Tie as tie

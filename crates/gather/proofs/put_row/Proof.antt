@@ -1,6 +1,5 @@
 -- `gather::put_row` meets its contract.
 -- Assumes nothing.
-use mathlib.Core.Path.{ap}
 use Prim.Native.Nat.{_≤_}
 use native.Mathlib.Omega.{arith}
 use borrow.Author.Needs.{needs}

@@ -1,6 +1,6 @@
 -- `gather::row_number` meets its contract.
 -- Assumes nothing.
-use mathlib.Core.Path.{sym, ap, _∙_}
+use mathlib.Core.Path.{sym, _∙_}
 use borrow.Author.Needs.{needs}
 use Rattle.gather.specs.Gather.{rowNumber}
 use Rattle.gather.proofs.Admitted.{passed, first-refuses, second-decides}

@@ -1,7 +1,6 @@
 -- `gather::rises_closely` meets its contract.
 -- Assumes nothing.
 use mathlib.Core.Bool.{false≢true}
-use native.Mathlib.Omega.{arith}
 use borrow.Author.Needs.{needs}
 use borrow.Author.Tests.{leb-true}
 use Rattle.gather.proofs.Steps.{rises-so}

@@ -1,6 +1,5 @@
 -- `pelisafu::gathering::of_step` meets its contract.
 -- Assumes nothing.
-use mathlib.Core.Path.{refl, _∙_}
 use borrow.Author.Needs.{needs}
 use Rattle.pelisafu.specs.Shown.{shownGathered}
 use Rattle.pelisafu.proofs.Numbers.{number-is}

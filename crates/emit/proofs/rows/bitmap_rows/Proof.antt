@@ -1,0 +1,56 @@
+-- `emit::rows::bitmap_rows` meets its contract: word after word.
+-- Assumes nothing.
+use mathlib.Core.Path.{ap, _∙_}
+use Prim.Native.Nat.{_-_, _<_}
+use native.Mathlib.Nat.{le-refl}
+use native.Mathlib.Omega.{arith}
+use borrow.Author.Needs.{needs}
+use lib.ListN.{length}
+use Rattle.model.proofs.Rising.{rising-wider}
+use Rattle.bitmap.specs.Body.{wordsOf}
+use Rattle.model.specs.Lists.{positionsOf}
+use Rattle.emit.proofs.Passing.{positions-below}
+use Rattle.emit.proofs.Wording.{Mapping, mapping-start, mapping-length, mapping-room, mapping-next, mapping-end, length-counted}
+use Rattle.emit.proofs.rows.bitmap_rows.Statement.{statement}
+use Rattle.emit.proofs.rows.bitmap_rows.Tie as tie
+
+abbrev Inv-loop : tie.InvT-loop
+Inv-loop out₀ at rows base span words p₀ i₀ k₀ out p i k = Mapping span (positionsOf base rows) out₀ at k i p out
+
+abbrev μ-loop : tie.MeasureT-loop
+μ-loop out₀ at rows base span words p₀ i₀ k₀ out p i k = words - k
+
+-- a word more is to be written
+left : (c : tie.In-loop Inv-loop μ-loop) → c .before .loop .k < wordsOf (c .before .before .before .before .before .before .args .span)
+left c = rw (c .before .before .before .words-of .ensures) at (c .loop-test .taken)
+
+pub bitmap-rows-spec : {M : Type 1} → statement M
+bitmap-rows-spec =
+    tie.close
+    (tie.spec
+    Inv-loop
+    μ-loop
+    (λ c κs. search needs)
+    (λ c κs. omega arith)
+    (λ c. omega arith)
+    (λ c. omega arith)
+    (λ c. mapping-start _ _ _ _ (rw (c .groups-of .ensures, c .before .words-of .ensures)))
+    (λ c κs. let p = c .before .before .before .before .before .before .pre in (rising-wider (le-refl _) (omega arith) (p .0), c .before .loop .inv .cut))
+    (λ c κs.
+    let t = c .before .before in
+    mapping-room _ _ _ _ (t .before .loop .inv) (left t) (t .before .before .before .before .before .before .pre .1) .0)
+    (λ c κs.
+    let t = c .before .before .before .before .before .before in
+    let v = t .before .loop .inv in
+    omega (arith, mapping-room _ _ _ _ v (left t) (t .before .before .before .before .before .before .pre .1) .1, ap length (c .before .before .before .put-before .ensures) ∙ length-counted _ _ _ _))
+    (λ c.
+    let t = c .before .before .before .before .before .before .before .before .before in
+    let v = t .before .loop .inv in
+    omega (arith, mapping-room _ _ _ _ v (left t) (t .before .before .before .before .before .before .pre .1) .1, mapping-length _ _ _ _ v))
+    (λ c. omega arith)
+    (λ c. omega arith)
+    (λ c.
+    let t = c .before .before .before .before .before .before .before .before .before in
+    mapping-next _ _ _ _ (t .before .loop .inv) (left t) (c .before .before .before .before .before .before .before .before .word-rows .ensures) (c .before .before .before .before .before .before .put-before .ensures) (c .before .before .put64 .ensures))
+    (λ c. mapping-length _ _ _ _ (c .before .loop .inv))
+    (λ c. mapping-end _ _ _ _ (c .before .loop .inv) (positions-below _ _ (c .before .before .before .before .before .before .pre .0)) (rw (c .before .before .before .words-of .ensures) at (c .loop-test .left))))
