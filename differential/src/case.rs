@@ -1,5 +1,7 @@
 //! What the comparisons are about: an input of planning, and what planning answers.
 
+mod smaller;
+
 /// A coverage [start, end) with its rows. `gathering` says in which pieces the rows were
 /// handed to the gatherer; where it is empty, planning gets no seeds.
 #[derive(Clone, Debug)]

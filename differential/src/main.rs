@@ -17,6 +17,7 @@ mod case;
 mod deletions;
 mod examples;
 mod index;
+mod listing;
 mod merging;
 #[cfg(pelisafu)]
 mod pelisafu;
@@ -24,11 +25,12 @@ mod plain;
 mod random;
 mod reading;
 mod record;
+mod shrink;
 
 use std::process::ExitCode;
 
-const USAGE: &str = "differential examples|merging|reading|largest|deletions|pelisafu|planning|\
-                     guarded|bench|record, or differential soak SECONDS SEED";
+const USAGE: &str = "differential shrinking|examples|merging|reading|largest|deletions|listing|\
+                     pelisafu|planning|guarded|recorded|bench|record, or differential soak SECONDS SEED";
 
 fn main() -> ExitCode {
     index::original::hush_caught_panics();
@@ -39,6 +41,8 @@ fn main() -> ExitCode {
         "reading" => reading::compare(),
         "largest" => reading::compare_largest(),
         "deletions" => deletions::compare(),
+        "listing" => listing::compare(),
+        "shrinking" => shrink::check(),
         #[cfg(pelisafu)]
         "pelisafu" => pelisafu::compare(),
         #[cfg(pelisafu)]
@@ -49,6 +53,7 @@ fn main() -> ExitCode {
         "soak" => soak(),
         "bench" => bench::table(),
         "record" => record::write(),
+        "recorded" => record::compare(),
         _ => Err(format!("usage: {USAGE}")),
     };
     match verdict {

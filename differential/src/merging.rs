@@ -5,6 +5,7 @@ use crate::case::{Case, Piece, Verdict};
 use crate::index::original::{self, Seeds};
 use crate::plain;
 use crate::random::{Random, SHAPES, SOURCES, case, gathered};
+use crate::shrink::shrinking;
 
 /// Rounds over every shape from every source, and how many of them are large.
 const ROUNDS: usize = 1_000;
@@ -55,18 +56,22 @@ pub(crate) fn compare_drawn(random: &mut Random) -> Result<(), String> {
     Ok(())
 }
 
+fn compare_plan(case: &Case, tally: &mut Tally) -> Result<(), String> {
+    shrinking(case, |case| compare_rules(case, tally))
+}
+
 /// One case: the original and the plain rule must give the same seeds and the same plan, or
 /// refuse alike.
-fn compare_plan(case: &Case, tally: &mut Tally) -> Result<(), String> {
+fn compare_rules(case: &Case, tally: &mut Tally) -> Result<(), String> {
     let seeds = plain::merging::gather(case);
     let gathered = Seeds::gathered(case).ends();
     if !case.gathering.is_empty() && gathered != seeds {
-        return Err(format!("seed ends {gathered:?} and {seeds:?} of {case:?}"));
+        return Err(format!("seed ends {gathered:?} and {seeds:?}"));
     }
     match (original::plan(case), plain::planning::plan(case)) {
         (Ok(theirs), Ok(plain)) if theirs == plain => {
             if plain.offers > 3 * (seeds.len() as u64 - 1) {
-                return Err(format!("{} offers of {case:?}", plain.offers));
+                return Err(format!("{} offers of {} seeds", plain.offers, seeds.len()));
             }
             tally.cases += 1;
             tally.seeds += seeds.len();
@@ -81,7 +86,7 @@ fn compare_plan(case: &Case, tally: &mut Tally) -> Result<(), String> {
             tally.refused += 1;
             Ok(())
         }
-        (theirs, plain) => Err(format!("{theirs:?} and {plain:?} of {case:?}")),
+        (theirs, plain) => Err(format!("planned {theirs:?} and {plain:?}")),
     }
 }
 
