@@ -6,7 +6,7 @@ mod streams;
 use crate::case::Verdict;
 use crate::plain::listing::{list, record};
 use crate::reading::Reading;
-use crate::shrink::{Input, cuts, fewer, shrinking};
+use crate::shrink::{Input, MOST, cuts, fewer, shrinking};
 use std::env;
 use std::io::Write;
 use std::path::Path;
@@ -81,8 +81,8 @@ impl Input for Stream {
     /// As what a shell's `printf` writes.
     fn shown(&self) -> String {
         let bytes = self.bytes();
-        let hex: String = bytes.iter().take(3_000).map(|byte| format!("\\x{byte:02x}")).collect();
-        let cut = if bytes.len() > 3_000 { ", and more" } else { "" };
+        let hex: String = bytes.iter().take(MOST).map(|byte| format!("\\x{byte:02x}")).collect();
+        let cut = if bytes.len() > MOST { ", and more" } else { "" };
         let slowly = if self.slowly { ", a byte at a time" } else { "" };
         format!("{} bytes{slowly}: printf '{hex}'{cut}", bytes.len())
     }

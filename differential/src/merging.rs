@@ -1,7 +1,7 @@
 //! Planning by the original against planning by the plain rule, over random seed tables:
 //! segments and offers, and with them seed ends, tag and body.
 
-use crate::case::{Case, Piece, Verdict};
+use crate::case::{Case, Verdict, bad_cases};
 use crate::index::original::{self, Seeds};
 use crate::plain;
 use crate::random::{Random, SHAPES, SOURCES, case, gathered};
@@ -92,7 +92,9 @@ fn compare_rules(case: &Case, tally: &mut Tally) -> Result<(), String> {
 
 /// Inputs on the bounds of planning that random rows do not meet.
 fn edge_cases() -> Vec<Case> {
+    let far_apart = |count| Case::new(0, 4_294_967_295, (0..count).map(|n| 200_000 * n));
     let mut cases = bad_cases();
+    cases.extend([16_383, 16_384].map(far_apart));
     for end in [1, 65_535, 65_536, 65_537, 4_294_967_295] {
         let (middle, last, many) = (end / 2, end - 1, end.min(65_535));
         for first in [0, middle, last] {
@@ -108,33 +110,6 @@ fn edge_cases() -> Vec<Case> {
         cases.push(Case::new(7, 70_000, 7..65_542).in_pages_of(size));
     }
     cases
-}
-
-/// Inputs that are refused, and beside each the nearest that is not.
-fn bad_cases() -> Vec<Case> {
-    const TOP: u64 = u64::MAX;
-    let far_apart = |count| Case::new(0, 4_294_967_295, (0..count).map(|n| 200_000 * n));
-    let mut short_table = Case::new(0, 10, [3, 4, 5]);
-    short_table.gathering = vec![Piece::Page(2)];
-    vec![
-        Case::new(5, 4, [5]),
-        Case::new(5, 5, [5]),
-        Case::new(0, 4_294_967_296, [0]),
-        Case::new(0, 4_294_967_295, [4_294_967_294]),
-        Case::new(TOP - 4_294_967_295, TOP, [TOP - 65_536, TOP - 1]),
-        Case::new(0, 10, []),
-        Case::new(0, 70_000, 0..65_536),
-        Case::new(0, 70_000, 0..65_535),
-        Case::new(0, 10, [3, 3]),
-        Case::new(0, 10, [4, 3]),
-        Case::new(2, 10, [1, 3]),
-        Case::new(2, 10, [3, 10]),
-        short_table,
-        Case::new(0, 10, [3, 4, 5]).limited(5),
-        Case::new(0, 10, [3, 4, 5]).limited(6),
-        far_apart(16_384),
-        far_apart(16_383),
-    ]
 }
 
 impl Tally {

@@ -10,7 +10,7 @@ use std::ops::Range;
 use std::time::{Duration, Instant};
 
 /// How many smaller inputs are tried, and for how long.
-const TRIES: usize = 5_000;
+const TRIES: usize = 20_000;
 const TIME: Duration = Duration::from_secs(15);
 
 /// An input of a comparison.
@@ -94,7 +94,7 @@ pub(crate) fn closer(numbers: &[u64], from: u64) -> impl Iterator<Item = (Vec<u6
 }
 
 /// More items than these are not told.
-const MOST: usize = 3_000;
+pub(crate) const MOST: usize = 70_000;
 
 /// A list as a Rust expression.
 pub(crate) fn listed<T: Debug>(items: &[T]) -> String {

@@ -58,13 +58,25 @@ impl Case {
         let last = rows.last().filter(|last| **last < end.saturating_sub(1));
         let to_last = last.map(|last| with(start, last + 1, rows.clone()));
         let inside = start <= end && rows.iter().all(|row| *row >= start);
-        let lower_starts = lower(if inside { start } else { 0 });
+        // Windows stay as they are where rows move by whole ones.
+        let start_in_window = (start >= 4_096).then_some(start % 4_096);
+        let lower_starts = start_in_window.into_iter().chain(lower(start)).filter(move |_| inside);
         let moved = lower_starts.map(move |to| {
             let by = start - to;
             with(to, end - by, rows.iter().map(|row| row - by).collect())
         });
         let closer =
             closer(rows, start).map(move |(rows, by)| with(start, end.saturating_sub(by), rows));
-        from_first.into_iter().chain(to_last).chain(moved).chain(closer)
+        let packed = self.packed().into_iter();
+        packed.chain(from_first).chain(to_last).chain(moved).chain(closer)
+    }
+
+    /// All rows next to each other, if they are not.
+    fn packed(&self) -> Option<Self> {
+        let (first, last) = (self.rows.first()?, self.rows.last()?);
+        let rows: Vec<u64> = (*first..=*last).take(self.rows.len()).collect();
+        let by = last - rows.last()?;
+        let end = self.end.saturating_sub(by);
+        (by > 0).then(|| Self { rows, end, ..self.clone() })
     }
 }

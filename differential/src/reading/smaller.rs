@@ -29,7 +29,7 @@ impl Input for Reading {
                 lowered
             })
         });
-        same_form.chain(shorter).chain(narrower).chain(lower_bytes)
+        same_form.chain(narrower).chain(shorter).chain(lower_bytes)
     }
 
     fn shown(&self) -> String {
