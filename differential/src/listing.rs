@@ -93,7 +93,8 @@ impl Input for Stream {
 struct Tally {
     starts: usize,
     bytes: usize,
-    listed: usize,
+    /// Records that are listed, by tag.
+    listed: [usize; 10],
     refused: usize,
     ends: usize,
     broken: usize,
@@ -110,7 +111,8 @@ impl Tally {
                 ["end", _] => &mut self.ends,
                 ["broken", _] => &mut self.broken,
                 ["version"] => &mut self.versions,
-                _ => &mut self.listed,
+                [_, tag, ..] => &mut self.listed[tag.parse::<usize>().expect("a tag")],
+                [..] => unreachable!("a line has two words at least, but for the version"),
             };
             *count += 1;
         }
@@ -127,9 +129,12 @@ pub(crate) fn compare() -> Verdict {
         shrinking(stream, |stream| compare_stream(&program, stream, &mut tally))
     })?;
     let Tally { starts, bytes, listed, refused, ends, broken, versions } = tally;
+    let tags: Vec<String> = listed[1..].iter().map(usize::to_string).collect();
     Ok(format!(
-        "listing: {starts} streams of {bytes} bytes alike, with {listed} records listed and {refused} refused; {ends} \
-         streams whole, {broken} broken, {versions} of another version"
+        "listing: {starts} streams of {bytes} bytes alike, with {} records listed and {refused} refused; {ends} streams \
+         whole, {broken} broken, {versions} of another version; listed by tags 1 to 9: {}",
+        listed.iter().sum::<usize>(),
+        tags.join(" ")
     ))
 }
 

@@ -11,7 +11,7 @@ use crate::index::original::Accepted;
 use crate::plain;
 use crate::random::Random;
 use crate::shrink::shrinking;
-pub(crate) use bodies::{in_every_form, segmented_body};
+pub(crate) use bodies::{in_every_form, segmented_body, spans};
 
 /// One question to a reader.
 #[derive(Clone, Debug, PartialEq, Eq)]

@@ -5,67 +5,12 @@ use crate::plain::bodies::whole;
 use crate::plain::costs::Cost;
 use crate::plain::{BITMAP, DENSE, LIST16, LIST32, MISSING, RUNS16, RUNS32, TRIMMED_MISSING};
 use crate::random::Random;
-use crate::reading::{self, Reading, in_every_form, segmented_body};
+use crate::reading::{self, Reading, in_every_form, segmented_body, spans};
 
 type Each<'a> = dyn FnMut(&Stream) -> Result<(), String> + 'a;
 
 /// The longest body that a record takes.
 const LONGEST: usize = 65_535;
-
-const SPANS: [u32; 20] = [
-    0,
-    1,
-    2,
-    9,
-    10,
-    63,
-    64,
-    65,
-    255,
-    256,
-    257,
-    4_095,
-    4_096,
-    65_534,
-    65_535,
-    65_536,
-    65_537,
-    999_999_999,
-    4_294_967_294,
-    4_294_967_295,
-];
-
-/// Lengths on both sides of every bound, and lengths that are good ones if read from the other end.
-const LENGTHS: [u32; 28] = [
-    0,
-    1,
-    2,
-    3,
-    4,
-    5,
-    6,
-    7,
-    8,
-    9,
-    10,
-    13,
-    255,
-    256,
-    261,
-    4_096,
-    32_768,
-    65_534,
-    65_535,
-    65_536,
-    65_539,
-    65_540,
-    65_541,
-    65_542,
-    65_796,
-    0x0500_0000,
-    0x8000_0005,
-    u32::MAX,
-];
 
 /// Random row sets, and random short streams.
 const DRAWN: usize = 40;
@@ -120,7 +65,9 @@ fn for_each_long(random: &mut Random, each: &mut Each) -> Result<(), String> {
     let mut long = Long { stream: Stream::of(Vec::new()), bytes: 0, each };
     for tag in 0..=255 {
         let bare = |span| Reading { tag, span, body: Vec::new() };
-        SPANS.into_iter().try_for_each(|span| long.add(&bare(span)))?;
+        // Beside the bounds of forms those where a number gets one digit more.
+        let spans = spans().chain([9, 10, 99, 100, 999_999_999, 1_000_000_000, 4_294_967_294]);
+        spans.map(bare).try_for_each(|record| long.add(&record))?;
     }
     longest().iter().try_for_each(|record| long.add(record))?;
     reading::for_each(&mut |record| long.add(record))?;
@@ -193,10 +140,16 @@ fn for_each_cut(each: &mut Each) -> Result<(), String> {
     each(&Stream { slowly: true, ..Stream::of(vec![longest().swap_remove(0)]) })
 }
 
+/// Lengths on both sides of every bound, and lengths that are good ones if read from the other end.
+fn lengths() -> impl Iterator<Item = u32> {
+    let bounds = (0..=10).chain(65_534..=65_542);
+    bounds.chain([13, 255, 256, 261, 4_096, 65_796, 0x0500_0000, 0x8000_0005, u32::MAX])
+}
+
 /// Records of every length at the start of a stream and later, with fewer bytes behind than that, as many, and more.
 fn for_each_length(each: &mut Each) -> Result<(), String> {
     for records in [Vec::new(), small_records()] {
-        for length in LENGTHS {
+        for length in lengths() {
             let near = (length as usize).min(LONGEST + 20);
             let mut counts = vec![0, 1, 4, 5, 9, near.saturating_sub(1), near, near + 1, near + 9];
             counts.sort_unstable();

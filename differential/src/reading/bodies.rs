@@ -15,10 +15,15 @@ const LONG: usize = 4_096;
 
 const OTHER_SPANS: [u32; 9] = [63, 64, 65, 255, 256, 257, 4_096, 65_534, 1_000_000];
 
+/// Spans on the bounds of every form.
+pub(crate) fn spans() -> impl Iterator<Item = u32> {
+    SPANS.into_iter().chain(OTHER_SPANS)
+}
+
 pub(super) fn for_each(
     each: &mut impl FnMut(&Reading) -> Result<(), String>,
 ) -> Result<(), String> {
-    for span in SPANS.into_iter().chain(OTHER_SPANS).filter(|span| *span > 0) {
+    for span in spans().filter(|span| *span > 0) {
         for positions in row_sets(u64::from(span)) {
             in_every_form(&positions, span).iter().try_for_each(&mut *each)?;
         }
