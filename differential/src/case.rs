@@ -1,5 +1,7 @@
 //! What the comparisons are about: an input of planning, and what planning answers.
 
+mod smaller;
+
 /// A coverage [start, end) with its rows. `gathering` says in which pieces the rows were
 /// handed to the gatherer; where it is empty, planning gets no seeds.
 #[derive(Clone, Debug)]
@@ -58,6 +60,44 @@ impl Piece {
         let (Self::Page(rows) | Self::Singly(rows)) = self;
         rows
     }
+}
+
+/// Inputs that are refused, and beside each the nearest that is not.
+pub(crate) fn bad_cases() -> Vec<Case> {
+    const TOP: u64 = u64::MAX;
+    let mut short_table = Case::new(0, 10, [3, 4, 5]);
+    short_table.gathering = vec![Piece::Page(2)];
+    vec![
+        Case::new(5, 4, [5]),
+        Case::new(5, 5, [5]),
+        Case::new(5, 6, [5]),
+        Case::new(TOP, 0, []),
+        Case::new(0, 4_294_967_296, [0]),
+        Case::new(1, 4_294_967_297, [1]),
+        Case::new(TOP - 4_294_967_296, TOP, [TOP - 65_536, TOP - 1]),
+        Case::new(TOP - 4_294_967_295, TOP, [TOP - 65_536, TOP - 1]),
+        Case::new(TOP - 1, TOP, [TOP - 1]),
+        Case::new(TOP - 1, TOP, [TOP]),
+        Case::new(0, 10, []),
+        Case::new(0, 70_000, 0..65_536),
+        Case::new(0, 70_000, 0..65_537),
+        Case::new(0, 70_000, 0..65_535),
+        Case::new(0, 70_000, 0..65_534),
+        Case::new(0, 10, [3, 3]),
+        Case::new(0, 10, [4, 3]),
+        Case::new(0, 70_000, [69_999, 2]),
+        Case::new(2, 10, [1, 3]),
+        Case::new(2, 10, [2, 9]),
+        Case::new(2, 10, [3, 10]),
+        short_table,
+        Case::new(0, 10, [3, 4, 5]).limited(5),
+        Case::new(0, 10, [3, 4, 5]).limited(6),
+        Case::new(0, 10, 0..10).limited(0),
+        Case::new(0, 10, 1..10).limited(0),
+        // No form takes 40,000 rows that stand 20 apart in 65,535 bytes.
+        Case::new(0, 1_000_000, (0..40_000).map(|n| 20 * n)),
+        Case::new(0, 4_294_967_295, (0..600).map(|n| 200_000 * n)),
+    ]
 }
 
 /// What planning answers.

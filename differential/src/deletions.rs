@@ -1,14 +1,45 @@
 //! Deletion sets: planning and reading by the original against document 01's tests, with the
 //! block limit as an argument.
 
+mod smaller;
+
 use crate::case::{Case, Verdict};
-use crate::index::deletions::{Section, plan, read};
-use crate::index::original::No;
+use crate::index::deletions::{Section as Planned, plan, read};
 use crate::plain;
 use crate::plain::costs::bitmap_length;
 use crate::random::Random;
+use crate::reading::Reading;
+use crate::shrink::shrinking;
 
 pub(crate) const ROW_COUNTS: [u16; 11] = [0, 1, 2, 10, 64, 65, 256, 257, 5_000, 65_534, 65_535];
+
+/// Deletions to plan.
+#[derive(Clone)]
+pub(crate) struct Deletions {
+    pub(crate) row_count: u16,
+    pub(crate) block_limit: usize,
+    pub(crate) ordinals: Vec<u16>,
+}
+
+/// A section to read. The span of the reading is the row count.
+#[derive(Clone)]
+pub(crate) struct Section {
+    pub(crate) block_limit: usize,
+    pub(crate) stated: u16,
+    pub(crate) reading: Reading,
+}
+
+impl Section {
+    pub(crate) fn row_count(&self) -> u16 {
+        self.reading.span as u16
+    }
+
+    /// Row count, block limit, stated count, tag and body, as a call takes them.
+    pub(crate) fn given(&self) -> (u16, usize, u16, u8, &[u8]) {
+        let Self { block_limit, stated, reading: Reading { tag, body, .. } } = self;
+        (self.row_count(), *block_limit, *stated, *tag, body)
+    }
+}
 
 #[derive(Default)]
 struct Tally {
@@ -24,7 +55,7 @@ pub(crate) fn compare() -> Verdict {
     for row_count in ROW_COUNTS {
         for block_limit in limits(row_count) {
             for ordinals in ordinal_sets(&mut random, row_count) {
-                compare_set(row_count, block_limit, &ordinals, &mut tally)?;
+                compare_set(&Deletions { row_count, block_limit, ordinals }, &mut tally)?;
             }
         }
     }
@@ -59,31 +90,24 @@ pub(crate) fn ordinal_sets(random: &mut Random, row_count: u16) -> Vec<Vec<u16>>
     sets
 }
 
-fn compare_set(
-    row_count: u16,
-    block_limit: usize,
-    ordinals: &[u16],
-    tally: &mut Tally,
-) -> Result<(), String> {
-    let theirs = plan(row_count, block_limit, ordinals);
-    let told = || format!("{row_count} rows, block limit {block_limit}, deleted {ordinals:?}");
-    match (&theirs, plain_plan(row_count, block_limit, ordinals)) {
-        (Ok(section), Ok(plain)) if *section == plain => {}
+fn compare_set(set: &Deletions, tally: &mut Tally) -> Result<(), String> {
+    shrinking(set, |set| compare_plan(set, tally))?;
+    for section in sections(set) {
+        shrinking(&section, |section| compare_reading(section, tally))?;
+    }
+    Ok(())
+}
+
+fn compare_plan(set: &Deletions, tally: &mut Tally) -> Result<(), String> {
+    match (plan(set.row_count, set.block_limit, &set.ordinals), plain_plan(set)) {
+        (Ok(theirs), Ok(plain)) if theirs == plain => match plain.0 {
+            None => tally.empty += 1,
+            Some(_) => tally.planned += 1,
+        },
         (Err(no), Err(number)) if no.is(number) && number != 6 => {
             tally.refused[usize::from(number)] += 1;
-            return Ok(());
         }
-        (theirs, plain) => return Err(format!("{theirs:?} and {plain:?} of {}", told())),
-    }
-    let Ok((Some(tag), body)) = theirs else {
-        tally.empty += 1;
-        return Ok(());
-    };
-    tally.planned += 1;
-    let count = ordinals.len() as u16;
-    for (limit, stated, tag, body) in readings(row_count, block_limit, count, tag, &body) {
-        let asked = (row_count, limit, stated, tag, body.as_slice());
-        compare_reading(asked, tally).map_err(|e| format!("{e} of {}", told()))?;
+        (theirs, plain) => return Err(format!("planned {theirs:?} and {plain:?}")),
     }
     Ok(())
 }
@@ -94,21 +118,21 @@ pub(crate) fn limits(row_count: u16) -> [usize; 5] {
     [0, rows.saturating_sub(1), rows, 65_535, usize::MAX]
 }
 
-/// Ways to read a planned section: limit, stated count, tag and body, few of them right.
-pub(crate) fn readings(
-    row_count: u16,
-    block_limit: usize,
-    count: u16,
-    tag: u8,
-    body: &[u8],
-) -> Vec<(usize, u16, u8, Vec<u8>)> {
-    let bound = 4 + bitmap_length(u64::from(row_count)) as usize;
-    let padded = [body, &vec![0; bound + 1 - body.len()]].concat();
+/// Ways to read what the original plans: other limits, stated counts, tags and lengths, few of them right.
+pub(crate) fn sections(set: &Deletions) -> Vec<Section> {
+    let Deletions { row_count, block_limit, ordinals } = set;
+    let Ok((Some(tag), body)) = plan(*row_count, *block_limit, ordinals) else {
+        return Vec::new();
+    };
+    let count = ordinals.len() as u16;
+    let bound = 4 + bitmap_length(u64::from(*row_count)) as usize;
+    let padded = [&body[..], &vec![0; bound + 1 - body.len()]].concat();
     let mut all = Vec::new();
     for stated in [count, 0, count.wrapping_add(1), count - 1, u16::MAX] {
-        for limit in [block_limit, usize::from(row_count) - 1] {
-            for (tag, body) in [(tag, body), (tag, &padded), (tag ^ 1, body)] {
-                all.push((limit, stated, tag, body.to_vec()));
+        for block_limit in [*block_limit, usize::from(*row_count) - 1] {
+            for (tag, body) in [(tag, &body), (tag, &padded), (tag ^ 1, &body)] {
+                let reading = Reading { tag, span: u32::from(*row_count), body: body.clone() };
+                all.push(Section { block_limit, stated, reading });
             }
         }
     }
@@ -116,39 +140,43 @@ pub(crate) fn readings(
 }
 
 /// Document 01's planning of deletions: test 9, then Empty, then planning's own.
-fn plain_plan(row_count: u16, block_limit: usize, ordinals: &[u16]) -> Result<Section, u8> {
-    if row_count == 0 || usize::from(row_count) > block_limit {
+fn plain_plan(set: &Deletions) -> Result<Planned, u8> {
+    let Deletions { row_count, block_limit, ordinals } = set;
+    if *row_count == 0 || usize::from(*row_count) > *block_limit {
         return Err(9);
     }
     if ordinals.is_empty() {
         return Ok((None, Vec::new()));
     }
-    let limit = 4 + bitmap_length(u64::from(row_count)) as usize;
+    let limit = 4 + bitmap_length(u64::from(*row_count)) as usize;
     let rows = ordinals.iter().map(|ordinal| u64::from(*ordinal));
-    let case = Case::new(0, u64::from(row_count), rows).limited(limit);
+    let case = Case::new(0, u64::from(*row_count), rows).limited(limit);
     plain::planning::plan(&case).map(|plan| (Some(plan.tag), plan.body))
 }
 
-/// Row count, block limit, stated count, tag and body.
-pub(crate) type Asked<'a> = (u16, usize, u16, u8, &'a [u8]);
-
-fn compare_reading(asked: Asked, tally: &mut Tally) -> Result<(), String> {
-    let (row_count, block_limit, stated, tag, body) = asked;
-    let theirs: Result<Vec<u16>, No> = read(row_count, block_limit, stated, tag, body);
-    match (theirs, plain_read(asked)) {
-        (Ok(theirs), Ok(plain)) if theirs.iter().copied().map(u64::from).eq(plain.clone()) => {
-            tally.read += 1;
-        }
-        (Err(no), Err(number)) if no.is(number) => tally.refused[usize::from(number)] += 1,
-        (theirs, plain) => return Err(format!("{theirs:?} and {plain:?} read from {asked:?}")),
+fn compare_reading(section: &Section, tally: &mut Tally) -> Result<(), String> {
+    match deleted(section)? {
+        Ok(_) => tally.read += 1,
+        Err(number) => tally.refused[usize::from(number)] += 1,
     }
     Ok(())
 }
 
+/// The deleted ordinals of a section, or the number of its refusal, as the original and the plain rule both say.
+pub(crate) fn deleted(section: &Section) -> Result<Result<Vec<u16>, u8>, String> {
+    let (row_count, block_limit, stated, tag, body) = section.given();
+    match (read(row_count, block_limit, stated, tag, body), plain_read(section)) {
+        (Ok(theirs), Ok(plain)) if theirs.iter().copied().map(u64::from).eq(plain.clone()) => {
+            Ok(Ok(theirs))
+        }
+        (Err(no), Err(number)) if no.is(number) => Ok(Err(number)),
+        (theirs, plain) => Err(format!("the original reads {theirs:?}, the plain rule {plain:?}")),
+    }
+}
+
 /// Document 01's reading of deletions: 9, then 8, then 10.
-pub(crate) fn plain_read(
-    (row_count, block_limit, stated, tag, body): Asked,
-) -> Result<Vec<u64>, u8> {
+fn plain_read(section: &Section) -> Result<Vec<u64>, u8> {
+    let (row_count, block_limit, stated, tag, body) = section.given();
     let span = u64::from(row_count);
     if row_count == 0
         || usize::from(row_count) > block_limit

@@ -18,6 +18,7 @@ mod case;
 mod deletions;
 mod examples;
 mod index;
+mod listing;
 mod merging;
 #[cfg(pelisafu)]
 mod pelisafu;
@@ -25,11 +26,12 @@ mod plain;
 mod random;
 mod reading;
 mod record;
+mod shrink;
 
 use std::process::ExitCode;
 
-const USAGE: &str = "differential examples|merging|reading|largest|deletions|pelisafu|planning|\
-                     guarded|bench|record, or differential soak SECONDS SEED";
+const USAGE: &str = "differential shrinking|examples|merging|reading|largest|deletions|listing|\
+                     pelisafu|planning|guarded|recorded|bench|record, or differential soak SECONDS SEED";
 
 fn main() -> ExitCode {
     index::original::hush_caught_panics();
@@ -40,6 +42,8 @@ fn main() -> ExitCode {
         "reading" => reading::compare(),
         "largest" => reading::compare_largest(),
         "deletions" => deletions::compare(),
+        "listing" => listing::compare(),
+        "shrinking" => shrink::check(),
         #[cfg(pelisafu)]
         "pelisafu" => pelisafu::compare(),
         #[cfg(pelisafu)]
@@ -51,6 +55,7 @@ fn main() -> ExitCode {
         #[cfg(pelisafu)]
         "bench" => bench::tables(std::env::args().nth(2).as_deref()),
         "record" => record::write(),
+        "recorded" => record::compare(),
         _ => Err(format!("usage: {USAGE}")),
     };
     match verdict {

@@ -1,10 +1,11 @@
 //! Planning by the original against planning by the plain rule, over random seed tables:
 //! segments and offers, and with them seed ends, tag and body.
 
-use crate::case::{Case, Piece, Verdict};
+use crate::case::{Case, Verdict, bad_cases};
 use crate::index::original::{self, Seeds};
 use crate::plain;
 use crate::random::{Random, SHAPES, SOURCES, case, gathered};
+use crate::shrink::shrinking;
 
 /// Rounds over every shape from every source, and how many of them are large.
 const ROUNDS: usize = 1_000;
@@ -55,18 +56,22 @@ pub(crate) fn compare_drawn(random: &mut Random) -> Result<(), String> {
     Ok(())
 }
 
+fn compare_plan(case: &Case, tally: &mut Tally) -> Result<(), String> {
+    shrinking(case, |case| compare_rules(case, tally))
+}
+
 /// One case: the original and the plain rule must give the same seeds and the same plan, or
 /// refuse alike.
-fn compare_plan(case: &Case, tally: &mut Tally) -> Result<(), String> {
+fn compare_rules(case: &Case, tally: &mut Tally) -> Result<(), String> {
     let seeds = plain::merging::gather(case);
     let gathered = Seeds::gathered(case).ends();
     if !case.gathering.is_empty() && gathered != seeds {
-        return Err(format!("seed ends {gathered:?} and {seeds:?} of {case:?}"));
+        return Err(format!("seed ends {gathered:?} and {seeds:?}"));
     }
     match (original::plan(case), plain::planning::plan(case)) {
         (Ok(theirs), Ok(plain)) if theirs == plain => {
             if plain.offers > 3 * (seeds.len() as u64 - 1) {
-                return Err(format!("{} offers of {case:?}", plain.offers));
+                return Err(format!("{} offers of {} seeds", plain.offers, seeds.len()));
             }
             tally.cases += 1;
             tally.seeds += seeds.len();
@@ -81,13 +86,15 @@ fn compare_plan(case: &Case, tally: &mut Tally) -> Result<(), String> {
             tally.refused += 1;
             Ok(())
         }
-        (theirs, plain) => Err(format!("{theirs:?} and {plain:?} of {case:?}")),
+        (theirs, plain) => Err(format!("planned {theirs:?} and {plain:?}")),
     }
 }
 
 /// Inputs on the bounds of planning that random rows do not meet.
 fn edge_cases() -> Vec<Case> {
+    let far_apart = |count| Case::new(0, 4_294_967_295, (0..count).map(|n| 200_000 * n));
     let mut cases = bad_cases();
+    cases.extend([16_383, 16_384].map(far_apart));
     for end in [1, 65_535, 65_536, 65_537, 4_294_967_295] {
         let (middle, last, many) = (end / 2, end - 1, end.min(65_535));
         for first in [0, middle, last] {
@@ -103,33 +110,6 @@ fn edge_cases() -> Vec<Case> {
         cases.push(Case::new(7, 70_000, 7..65_542).in_pages_of(size));
     }
     cases
-}
-
-/// Inputs that are refused, and beside each the nearest that is not.
-fn bad_cases() -> Vec<Case> {
-    const TOP: u64 = u64::MAX;
-    let far_apart = |count| Case::new(0, 4_294_967_295, (0..count).map(|n| 200_000 * n));
-    let mut short_table = Case::new(0, 10, [3, 4, 5]);
-    short_table.gathering = vec![Piece::Page(2)];
-    vec![
-        Case::new(5, 4, [5]),
-        Case::new(5, 5, [5]),
-        Case::new(0, 4_294_967_296, [0]),
-        Case::new(0, 4_294_967_295, [4_294_967_294]),
-        Case::new(TOP - 4_294_967_295, TOP, [TOP - 65_536, TOP - 1]),
-        Case::new(0, 10, []),
-        Case::new(0, 70_000, 0..65_536),
-        Case::new(0, 70_000, 0..65_535),
-        Case::new(0, 10, [3, 3]),
-        Case::new(0, 10, [4, 3]),
-        Case::new(2, 10, [1, 3]),
-        Case::new(2, 10, [3, 10]),
-        short_table,
-        Case::new(0, 10, [3, 4, 5]).limited(5),
-        Case::new(0, 10, [3, 4, 5]).limited(6),
-        far_apart(16_384),
-        far_apart(16_383),
-    ]
 }
 
 impl Tally {

@@ -3,6 +3,7 @@
 
 pub(crate) mod bodies;
 pub(crate) mod costs;
+pub(crate) mod listing;
 pub(crate) mod merging;
 pub(crate) mod planning;
 pub(crate) mod reading;

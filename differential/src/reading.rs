@@ -4,14 +4,17 @@
 mod bodies;
 mod long;
 mod short;
+mod smaller;
 
 use crate::case::Verdict;
-use crate::index::original::{Accepted, asserting};
+use crate::index::original::Accepted;
 use crate::plain;
 use crate::random::Random;
+use crate::shrink::shrinking;
+pub(crate) use bodies::{in_every_form, segmented_body, spans};
 
 /// One question to a reader.
-#[derive(Clone, Debug)]
+#[derive(Clone, Debug, PartialEq, Eq)]
 pub(crate) struct Reading {
     pub(crate) tag: u8,
     pub(crate) span: u32,
@@ -23,16 +26,6 @@ struct Tally {
     accepted: [usize; 11],
     refused: usize,
     ranks: usize,
-}
-
-impl Reading {
-    /// A difference with the body that it was found on.
-    pub(crate) fn told(&self, what: &str) -> String {
-        let Self { tag, span, body } = self;
-        let shown: Vec<String> = body.iter().take(400).map(|b| format!("{b:02X}")).collect();
-        let (length, hex) = (body.len(), shown.join(" "));
-        format!("tag {tag}, span {span}, {length} bytes {hex}: {what}")
-    }
 }
 
 /// Every body that readers are compared on, the short ones first.
@@ -63,7 +56,6 @@ pub(crate) fn compare() -> Verdict {
 }
 
 /// Bodies of one random row set in every form that can hold it, each of them also damaged.
-#[cfg(pelisafu)]
 pub(crate) fn for_each_drawn(
     random: &mut Random,
     each: &mut impl FnMut(&Reading) -> Result<(), String>,
@@ -88,23 +80,19 @@ pub(crate) fn compare_largest() -> Verdict {
 }
 
 fn compare_body(reading: &Reading, tally: &mut Tally) -> Result<(), String> {
+    shrinking(reading, |reading| compare_readers(reading, tally))
+}
+
+fn compare_readers(reading: &Reading, tally: &mut Tally) -> Result<(), String> {
     let Reading { tag, span, body } = reading;
     let plain = plain::reading::read(*tag, u64::from(*span), body);
-    let compared = asserting(|| {
-        let theirs = Accepted::new(*tag, *span, body);
-        Ok(match (theirs, &plain) {
-            (None, None) => Ok(None),
-            (Some(set), Some(list)) => compare_answers(set, list, *span).map(Some),
-            (theirs, _) => Err(format!("accepted by the original: {}", theirs.is_some())),
-        })
-    });
-    let compared = compared.unwrap_or_else(|no| Err(format!("{no:?}")));
-    match compared.map_err(|what| reading.told(&what))? {
-        None => tally.refused += 1,
-        Some(ranks) => {
+    match (Accepted::new(*tag, *span, body), &plain) {
+        (None, None) => tally.refused += 1,
+        (Some(set), Some(list)) => {
+            tally.ranks += compare_answers(set, list, *span)?;
             tally.accepted[usize::from(*tag)] += 1;
-            tally.ranks += ranks;
         }
+        (theirs, _) => return Err(format!("accepted by the original: {}", theirs.is_some())),
     }
     Ok(())
 }

@@ -12,7 +12,7 @@ mod deletions;
 mod plans;
 
 use crate::case::Verdict;
-use std::{env, fs};
+use std::fs;
 
 /// Where the program finds its list, from the folder that comparisons run in.
 const LIST: &str = "../crates/replay/stdin";
@@ -29,18 +29,37 @@ struct List {
 }
 
 pub(crate) fn write() -> Verdict {
-    let path = env::args().nth(2).unwrap_or(LIST.to_string());
-    let mut list = List { bytes: vec![1], ..List::default() };
-    plans::record(&mut list)?;
-    bodies::record(&mut list)?;
-    deletions::record(&mut list)?;
-    let List { bytes, plans, bodies, deletions } = list;
-    let size = bytes.len();
-    fs::write(&path, bytes).map_err(|error| format!("{path}: {error}"))?;
-    Ok(format!("record: {plans} plans, {bodies} bodies, {deletions} of deletions in {size} bytes"))
+    let list = List::recorded()?;
+    fs::write(LIST, &list.bytes).map_err(|error| format!("{LIST}: {error}"))?;
+    Ok(format!("record: {}", list.summary()))
+}
+
+/// The list that is there is the one that would be written now.
+pub(crate) fn compare() -> Verdict {
+    let list = List::recorded()?;
+    let there = fs::read(LIST).map_err(|error| format!("{LIST}: {error}"))?;
+    if there != list.bytes {
+        let same = there.iter().zip(&list.bytes).take_while(|(one, other)| one == other).count();
+        return Err(format!("{LIST} is another list from byte {same} on; `run record` writes it"));
+    }
+    Ok(format!("recorded: {LIST} is as it would be written now: {}", list.summary()))
 }
 
 impl List {
+    fn recorded() -> Result<Self, String> {
+        let mut list = Self { bytes: vec![1], ..Self::default() };
+        plans::record(&mut list)?;
+        bodies::record(&mut list)?;
+        deletions::record(&mut list)?;
+        Ok(list)
+    }
+
+    fn summary(&self) -> String {
+        let Self { bytes, plans, bodies, deletions } = self;
+        let size = bytes.len();
+        format!("{plans} plans, {bodies} bodies, {deletions} of deletions in {size} bytes")
+    }
+
     fn plan(&mut self, case: &[u8]) {
         self.plans += 1;
         self.case(1, case);

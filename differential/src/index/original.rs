@@ -42,7 +42,7 @@ thread_local! {
     static CATCHING: Cell<bool> = const { Cell::new(false) };
 }
 
-/// Makes panics silent that `asserting` catches. All others are told as before.
+/// Makes panics silent that `asserting` and `caught` catch. All others are told as before.
 pub(crate) fn hush_caught_panics() {
     let tell = panic::take_hook();
     panic::set_hook(Box::new(move |info| {
@@ -52,12 +52,26 @@ pub(crate) fn hush_caught_panics() {
     }));
 }
 
-/// Runs a call of the original that may fail one of its asserts.
-pub(crate) fn asserting<T>(call: impl FnOnce() -> Result<T, No>) -> Result<T, No> {
+fn hushed<T>(call: impl FnOnce() -> T) -> std::thread::Result<T> {
     let outer = CATCHING.replace(true);
     let caught = panic::catch_unwind(panic::AssertUnwindSafe(call));
     CATCHING.set(outer);
-    caught.unwrap_or(Err(No::Assert))
+    caught
+}
+
+/// Runs a call of the original that may fail one of its asserts.
+pub(crate) fn asserting<T>(call: impl FnOnce() -> Result<T, No>) -> Result<T, No> {
+    hushed(call).unwrap_or(Err(No::Assert))
+}
+
+/// Runs a comparison. An assert that fails in it is a difference, told by its own words.
+pub(crate) fn caught(compare: impl FnOnce() -> Result<(), String>) -> Result<(), String> {
+    hushed(compare).unwrap_or_else(|thrown| {
+        let words = thrown.downcast_ref::<String>().cloned();
+        Err(words
+            .or_else(|| thrown.downcast_ref::<&str>().map(ToString::to_string))
+            .unwrap_or_default())
+    })
 }
 
 pub(crate) fn row_ids(rows: &[u64]) -> Vec<RowID> {

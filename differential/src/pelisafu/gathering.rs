@@ -1,10 +1,13 @@
 //! Gathering by Pelisafu against the original's seeds, over random pages and rows; and its refusals, which the
 //! original does not have, against document 01.
 
+mod smaller;
+
 use super::calls::Gathering;
 use crate::case::{Case, Piece};
 use crate::index::original::Seeds;
 use crate::random::{Random, SHAPES, SOURCES, case, gathered};
+use crate::shrink::shrinking;
 
 const ROUNDS: usize = 300;
 const REFUSALS: usize = 400_000;
@@ -31,8 +34,10 @@ pub(super) fn compare_rounds(
                 let count = 1 + random.below(bound) as usize;
                 let drawn = case(random, shape, count);
                 let drawn = gathered(random, source, drawn);
-                let told = |what| format!("{what}; gathering {drawn:?}");
-                seeds += compare_seeds(&drawn).map_err(told)?;
+                shrinking(&drawn, |drawn| {
+                    seeds += compare_seeds(drawn)?;
+                    Ok(())
+                })?;
                 cases += 1;
             }
         }
@@ -105,26 +110,64 @@ fn refusal(number: u8) -> String {
     format!("refusal {number}")
 }
 
-/// Document 01's tests 12, 3, 2 and 11, in that order, for rows that are one seed or none.
-fn number(g: Gathering, room: usize, rows: &[u64], entries_after: usize) -> u8 {
-    let (entries, total, first, last) = g.fields();
-    let one_zero = (entries == 0) != (total == 0);
-    if entries > room || entries > total || one_zero || (total > 0 && first > last) {
-        return 12;
-    }
-    let Some(lowest) = rows.first() else {
-        return 0;
-    };
-    if (total > 0 && *lowest <= last) || !rows.windows(2).all(|pair| pair[0] < pair[1]) {
-        return 3;
-    }
-    if total as u128 + rows.len() as u128 > 65_535 {
-        return 2;
-    }
-    if entries_after > room { 11 } else { 0 }
+/// Rows handed over at once, to a record and a table of so many entries.
+#[derive(Clone)]
+struct Handing {
+    record: Gathering,
+    room: usize,
+    /// One row is handed over singly.
+    singly: bool,
+    rows: Vec<u64>,
 }
 
-/// Records, rows and pages on the bounds of each test: the number, and that the table stays as it was.
+impl Handing {
+    /// Document 01's tests 12, 3, 2 and 11, in that order, for rows that are one seed or none.
+    fn number(&self) -> u8 {
+        let (entries, total, first, last) = self.record.fields();
+        let one_zero = (entries == 0) != (total == 0);
+        if entries > self.room || entries > total || one_zero || (total > 0 && first > last) {
+            return 12;
+        }
+        let Some(lowest) = self.rows.first() else {
+            return 0;
+        };
+        if (total > 0 && *lowest <= last) || !self.rows.windows(2).all(|pair| pair[0] < pair[1]) {
+            return 3;
+        }
+        if total as u128 + self.rows.len() as u128 > 65_535 {
+            return 2;
+        }
+        let joins = self.singly && total > 0 && lowest / 4_096 == first / 4_096;
+        if !joins && entries == self.room { 11 } else { 0 }
+    }
+
+    /// A page of more than one seed is left to the random gatherings.
+    fn many_seeds(&self) -> bool {
+        let Self { singly, rows, .. } = self;
+        !singly && rows.last().is_some_and(|last| last.saturating_sub(rows[0]) >= 65_535)
+    }
+
+    /// The number, and that a table stays as it was if nothing is added to it.
+    fn compare(&self) -> Result<(), String> {
+        if self.many_seeds() {
+            return Ok(());
+        }
+        let mut table = vec![UNTOUCHED; self.room];
+        let right = self.number();
+        let answer = match self.singly {
+            true => self.record.row(&mut table, self.rows[0]),
+            false => self.record.page(&mut table, &self.rows),
+        };
+        let ours = answer.err().unwrap_or(0);
+        let still = right != 0 || self.rows.is_empty();
+        if ours != right || (still && table.iter().any(|entry| *entry != UNTOUCHED)) {
+            return Err(format!("gathering gives {ours}, not {right}, and leaves {table:04X?}"));
+        }
+        Ok(())
+    }
+}
+
+/// Records, rows and pages on the bounds of each test.
 fn compare_refusals(random: &mut Random, tries: usize) -> Result<usize, String> {
     const COUNTS: [usize; 9] = [0, 1, 2, 3, 4, 65_533, 65_534, 65_535, usize::MAX];
     const ROWS: [u64; 8] = [0, 1, 4_095, 4_096, 4_097, 70_000, u64::MAX - 1, u64::MAX];
@@ -136,33 +179,13 @@ fn compare_refusals(random: &mut Random, tries: usize) -> Result<usize, String> 
         let (first, last, single) = (row(), row(), row());
         let mut page = vec![row(), row(), row()];
         page.truncate(random.below(4) as usize);
-        let g = Gathering::record(entries, total, first, last);
+        let record = Gathering::record(entries, total, first, last);
         let room = random.below(6) as usize;
-        let joins = total > 0 && single / 4_096 == first / 4_096;
-        let after = entries.wrapping_add(usize::from(!joins));
-        let told = |ours: u8, right: u8, rows: &[u64]| {
-            format!("gathering {rows:?} into {g:?} with room for {room}: {ours}, not {right}")
-        };
-        let mut table = vec![UNTOUCHED; room];
-        let right = number(g, room, &[single], after);
-        let ours = g.row(&mut table, single).err().unwrap_or(0);
-        let stray = right != 0 && table.iter().any(|entry| *entry != UNTOUCHED);
-        if ours != right || stray {
-            return Err(told(ours, right, &[single]));
+        for (singly, rows) in [(true, vec![single]), (false, page)] {
+            let handing = Handing { record, room, singly, rows };
+            shrinking(&handing, Handing::compare)?;
+            refused += usize::from(!handing.many_seeds() && handing.number() != 0);
         }
-        refused += usize::from(right != 0);
-        // A page of more than one seed is left to the random gatherings.
-        if page.last().is_some_and(|last| last.saturating_sub(page[0]) >= 65_535) {
-            continue;
-        }
-        let mut table = vec![UNTOUCHED; room];
-        let right = number(g, room, &page, entries.wrapping_add(1));
-        let ours = g.page(&mut table, &page).err().unwrap_or(0);
-        let stray = (right != 0 || page.is_empty()) && table.iter().any(|e| *e != UNTOUCHED);
-        if ours != right || stray {
-            return Err(told(ours, right, &page));
-        }
-        refused += usize::from(right != 0);
     }
     Ok(refused)
 }

@@ -144,3 +144,31 @@ impl<T> Drop for LentMut<'_, T> {
         }
     }
 }
+
+/// What stands in memory that is lent to be written: another value at each place, so that a stray write shows wherever
+/// it falls.
+pub(super) trait Canary: Copy {
+    fn at(place: u32) -> Self;
+}
+
+impl Canary for u32 {
+    fn at(place: u32) -> Self {
+        place.wrapping_mul(0x9E37_79B9) ^ 0xA5A5_0F0F
+    }
+}
+
+impl Canary for u16 {
+    fn at(place: u32) -> Self {
+        (u32::at(place) >> 16) as Self
+    }
+}
+
+impl Canary for u8 {
+    fn at(place: u32) -> Self {
+        (u32::at(place) >> 24) as Self
+    }
+}
+
+pub(super) fn canaries<T: Canary>(length: usize) -> Vec<T> {
+    (0..length as u32).map(T::at).collect()
+}

@@ -6,20 +6,24 @@ pub(super) mod drawn;
 mod edges;
 mod exhaustive;
 mod known;
-mod shrink;
+mod smaller;
 mod tally;
 mod ties;
 
 use super::calls::Body;
+use super::memory::canaries;
 use super::plans::{Means, Planned, plan_ordinals, plan_rows};
 use crate::case::{Case, Piece, Plan};
-use crate::index::original::Seeds;
+use crate::deletions::Deletions;
+use crate::index::original::{Seeds, caught};
 use crate::random::Random;
+use crate::shrink::told;
 use known::Known;
+use smaller::Lent;
 pub(super) use tally::Tally;
 
 /// Rows with a table of seed ends. The original gets its seeds by the case's gathering.
-#[derive(Clone, Debug)]
+#[derive(Clone)]
 pub(super) struct Request {
     pub(super) case: Case,
     pub(super) seeds: Vec<u16>,
@@ -122,14 +126,19 @@ fn compare_request(
     lendings: &[Lending],
     tally: &mut Tally,
 ) -> Result<(), String> {
-    let compared = known::known(request).and_then(|known| {
-        if let Ok(plan) = &known.plan {
-            read_back(&request.case, plan)?;
-        }
-        tally.known(&known);
-        lendings.iter().try_for_each(|lending| compare_call(request, lending, &known, tally))
-    });
-    compared.map_err(|_| shrink::told(request, lendings))
+    caught(|| compare_calls(request, lendings, tally)).map_err(|what| {
+        let lent = Lent { request: request.clone(), lendings: lendings.to_vec() };
+        told(lent, what, |lent| compare_calls(&lent.request, &lent.lendings, tally))
+    })
+}
+
+fn compare_calls(request: &Request, lendings: &[Lending], tally: &mut Tally) -> Result<(), String> {
+    let known = known::known(request)?;
+    if let Ok(plan) = &known.plan {
+        read_back(&request.case, plan)?;
+    }
+    tally.known(&known);
+    lendings.iter().try_for_each(|lending| compare_call(request, lending, &known, tally))
 }
 
 /// The call with one lending, and the same as ordinals where that can be.
@@ -154,20 +163,16 @@ fn compare_call(
 
 /// What planning of deletions must come to, with so much more workspace and output than needed: test 9, then Empty, then
 /// as planning of ordinals without a limit.
-pub(super) fn deletion_answer(
-    row_count: u16,
-    block_limit: usize,
-    ordinals: &[u16],
-    (work, out): (i64, i64),
-) -> Result<Right, String> {
+pub(super) fn deletion_answer(set: &Deletions, (work, out): (i64, i64)) -> Result<Right, String> {
+    let Deletions { row_count, block_limit, ordinals } = set;
     let rows = ordinals.iter().map(|ordinal| u64::from(*ordinal));
-    let request = Request::gathered(Case::new(0, u64::from(row_count), rows));
+    let request = Request::gathered(Case::new(0, u64::from(*row_count), rows));
     let mut right = known::known(&request)?.right(&Lending { work, out, limit: None });
-    let refused = row_count == 0 || usize::from(row_count) > block_limit;
+    let refused = *row_count == 0 || usize::from(*row_count) > *block_limit;
     if refused || ordinals.is_empty() {
         right.answer = Planned { number: if refused { 9 } else { 0 }, ..Planned::default() };
-        right.work = words(right.work.len());
-        right.out = bytes(right.out.len());
+        right.work = canaries(right.work.len());
+        right.out = canaries(right.out.len());
     }
     Ok(right)
 }
@@ -178,16 +183,6 @@ pub(super) struct Right {
     answer: Planned,
     work: Vec<u32>,
     out: Vec<u8>,
-}
-
-/// A number for each place of a workspace, so that a stray write shows wherever it falls.
-fn words(count: usize) -> Vec<u32> {
-    (0..count as u32).map(|i| i.wrapping_mul(0x9E37_79B9) ^ 0xA5A5_0F0F).collect()
-}
-
-/// The same for an output.
-fn bytes(count: usize) -> Vec<u8> {
-    (0..count as u32).map(|i| (i.wrapping_mul(0x9E37_79B9) >> 24) as u8 ^ 0xA5).collect()
 }
 
 impl Right {
@@ -205,7 +200,7 @@ impl Right {
         name: &str,
         call: impl Fn(Means) -> Planned,
     ) -> Result<(), String> {
-        let (mut work, mut out) = (words(self.work.len()), bytes(self.out.len()));
+        let (mut work, mut out) = (canaries(self.work.len()), canaries(self.out.len()));
         let answer = call(Means { limit: self.limit, work: &mut work, out: &mut out });
         if answer != self.answer {
             return Err(format!("{name} answers {answer:?}, not {:?}", self.answer));

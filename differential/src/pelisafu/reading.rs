@@ -1,9 +1,12 @@
 //! Reading by Pelisafu against reading by the original, on every body of `reading`. Nothing is taken from the plain
 //! rule, but that many ranks answer 4,294,967,295 for nothing, which the original has no call for.
 
-use super::calls::{Body, Record};
-use crate::index::original::{Accepted, asserting};
+use super::calls::{Body, Record, Told};
+use super::memory::{Canary, canaries};
+use crate::index::original::Accepted;
 use crate::reading::{Reading, for_each, questions};
+use crate::shrink::shrinking;
+use std::fmt::Debug;
 
 /// What single calls may cost on one body. Each call checks the whole body again, so that long bodies are asked
 /// singly at fewer places; many ranks and the walk answer for all of them.
@@ -36,33 +39,47 @@ impl Tally {
 }
 
 pub(super) fn compare_body(reading: &Reading, tally: &mut Tally) -> Result<(), String> {
-    let body = Body { tag: reading.tag, span: reading.span, bytes: &reading.body };
-    let compared = asserting(|| {
-        Ok(match Accepted::new(reading.tag, reading.span, &reading.body) {
-            None => compare_refused(body, tally),
-            Some(set) => Answers::new(set, body).compare(tally),
-        })
-    });
-    let compared = compared.unwrap_or_else(|no| Err(format!("{no:?}")));
-    compared.map_err(|what| reading.told(&what))
+    shrinking(reading, |reading| {
+        let Reading { tag, span, body } = reading;
+        let ours = Body { tag: *tag, span: *span, bytes: body };
+        match Accepted::new(*tag, *span, body) {
+            None => compare_refused(ours, tally),
+            Some(set) => Answers::new(set, ours).compare(tally),
+        }
+    })
 }
 
-pub(super) fn same<T: PartialEq + std::fmt::Debug>(
-    what: &str,
-    ours: T,
-    right: T,
-) -> Result<(), String> {
+pub(super) fn same<T: PartialEq + Debug>(what: &str, ours: T, right: T) -> Result<(), String> {
     if ours == right { Ok(()) } else { Err(format!("{what} gives {ours:?}, not {right:?}")) }
 }
 
-/// A number for each place of an output, so that a stray write shows wherever it falls.
-fn canaries(length: usize) -> Vec<u32> {
-    (0..length as u32).map(|i| i.wrapping_mul(0x9E37_79B9) ^ 0xA5A5_0F0F).collect()
+impl Canary for Record {
+    fn at(place: u32) -> Self {
+        Self::from((u32::at(place), 1, 2, 3, 4, 5, 0xA5))
+    }
 }
 
-/// The same for each place of a table.
-fn records(length: usize) -> Vec<Record> {
-    canaries(length).into_iter().map(|n| Record::from((n, 1, 2, 3, 4, 5, 0xA5))).collect()
+/// Walks of the list from the ends, the middle and beyond, into nothing, one place, some, just enough and more than
+/// enough. Gives their number.
+pub(super) fn compare_walks<T: Canary + PartialEq + Debug>(
+    list: &[T],
+    walk: impl Fn(u16, &mut [T]) -> Told<u64>,
+) -> Result<usize, String> {
+    let count = list.len();
+    let mut walks = 0;
+    for from in [0, 1, count / 2, count - 1, count, 65_535] {
+        let rest = list.get(from..).unwrap_or(&[]);
+        for room in [0, 1, rest.len() / 2, rest.len(), rest.len() + 5] {
+            let written = room.min(rest.len());
+            let (mut out, mut right) = (canaries(room), canaries(room));
+            right[..written].copy_from_slice(&rest[..written]);
+            let ours = walk(from as u16, &mut out);
+            same(&format!("walk from {from} into {room}"), ours, Ok(Some(written as u64)))?;
+            same(&format!("the output of a walk from {from} into {room}"), out, right)?;
+            walks += 1;
+        }
+    }
+    Ok(walks)
 }
 
 /// Every call refuses by number 8, before 7, and writes nothing.
@@ -77,9 +94,9 @@ fn compare_refused(body: Body, tally: &mut Tally) -> Result<(), String> {
         same("walk", body.walk(0, &mut out), Err(8))?;
         same("ranks", body.ranks(&[0, 1, 2], &mut out), Err(8))?;
         same("the output after a refusal", out, canaries(room))?;
-        let mut table = records(room);
+        let mut table = canaries(room);
         same("segments", body.segments(&mut table), Err(8))?;
-        same("the table after a refusal", table, records(room))?;
+        same("the table after a refusal", table, canaries(room))?;
     }
     tally.refused += 1;
     Ok(())
@@ -105,7 +122,7 @@ impl<'a> Answers<'a> {
         same("validate", self.body.validate(), Ok(Some(u64::from(self.set.count()))))?;
         self.compare_ranks(tally)?;
         self.compare_selects(tally)?;
-        self.compare_walks(tally)?;
+        tally.walks += compare_walks(&self.list, |from, out| self.body.walk(from, out))?;
         self.compare_entries(tally)?;
         tally.accepted += 1;
         Ok(())
@@ -150,42 +167,23 @@ impl<'a> Answers<'a> {
         Ok(())
     }
 
-    /// From the ends, the middle and beyond, into nothing, one place, some, just enough and more than enough.
-    fn compare_walks(&self, tally: &mut Tally) -> Result<(), String> {
-        let count = self.list.len();
-        for from in [0, 1, count / 2, count - 1, count, 65_535] {
-            let rest = self.list.get(from..).unwrap_or(&[]);
-            for room in [0, 1, rest.len() / 2, rest.len(), rest.len() + 5] {
-                let written = room.min(rest.len());
-                let mut expected = canaries(room);
-                expected[..written].copy_from_slice(&rest[..written]);
-                let mut out = canaries(room);
-                let ours = self.body.walk(from as u16, &mut out);
-                same(&format!("walk from {from} into {room}"), ours, Ok(Some(written as u64)))?;
-                same(&format!("the output of a walk from {from} into {room}"), out, expected)?;
-                tally.walks += 1;
-            }
-        }
-        Ok(())
-    }
-
     /// All entries into a table with room to spare, an exact one, and one that is too short.
     fn compare_entries(&self, tally: &mut Tally) -> Result<(), String> {
         let entries = self.set.entries();
-        let mut expected = records(entries.len() + 3);
+        let mut expected = canaries(entries.len() + 3);
         for (place, entry) in expected.iter_mut().zip(&entries) {
             *place = Record::from(*entry);
         }
         for spare in [3, 0] {
-            let mut table = records(entries.len() + spare);
+            let mut table = canaries(entries.len() + spare);
             let ours = self.body.segments(&mut table);
             same("segments", ours, Ok(Some(entries.len() as u64)))?;
             same("the table of segments", &table[..], &expected[..entries.len() + spare])?;
         }
         if let Some(less) = entries.len().checked_sub(1) {
-            let mut short = records(less);
+            let mut short = canaries(less);
             same("segments into less", self.body.segments(&mut short), Err(7))?;
-            same("the table of segments into less", short, records(less))?;
+            same("the table of segments into less", short, canaries(less))?;
         }
         tally.entries += entries.len();
         Ok(())

@@ -3,6 +3,7 @@
 use super::calls::{Checked, Filled, Told, told};
 use super::memory::{Lent, LentMut};
 use super::plans::{Means, Planned};
+use crate::deletions::{Deletions, Section};
 
 #[repr(C)]
 pub(crate) struct Contained {
@@ -51,50 +52,38 @@ unsafe extern "C" {
     ) -> Filled;
 }
 
-/// Row count, block limit, stated count, tag and body.
-#[derive(Clone, Copy)]
-pub(super) struct Section<'a>(
-    pub(super) u16,
-    pub(super) usize,
-    pub(super) u16,
-    pub(super) u8,
-    pub(super) &'a [u8],
-);
-
 // SAFETY, for every call: as in `calls`.
 /// The caller's limit has no place here.
-pub(super) fn plan_deletions(
-    row_count: u16,
-    block_limit: usize,
-    ordinals: &[u16],
-    means: Means,
-) -> Planned {
+pub(super) fn plan_deletions(set: &Deletions, means: Means) -> Planned {
+    let Deletions { row_count, block_limit, ordinals } = set;
     let (count, words, room) = (ordinals.len(), means.work.len(), means.out.len());
     let ordinals = Lent::new(ordinals);
     let (mut work, mut out) = (LentMut::new(means.work), LentMut::new(means.out));
     let (given, work, out) = (ordinals.pointer(), work.pointer(), out.pointer());
-    unsafe { pelisafu_plan_deletions(row_count, block_limit, given, count, work, words, out, room) }
+    unsafe {
+        pelisafu_plan_deletions(*row_count, *block_limit, given, count, work, words, out, room)
+    }
 }
 
-impl Section<'_> {
-    pub(super) fn check(self) -> Told<u64> {
-        let Self(rows, limit, count, tag, bytes) = self;
+impl Section {
+    pub(super) fn check(&self) -> Told<u64> {
+        let (rows, limit, count, tag, bytes) = self.given();
         let body = Lent::new(bytes);
         let body = body.pointer();
         unsafe { pelisafu_check_deletions(rows, limit, count, tag, body, bytes.len()) }.told()
     }
 
     /// Something where the ordinal is deleted.
-    pub(super) fn deleted(self, ordinal: u16) -> Told<u64> {
-        let Self(rows, limit, count, tag, bytes) = self;
+    pub(super) fn deleted(&self, ordinal: u16) -> Told<u64> {
+        let (rows, limit, count, tag, bytes) = self.given();
         let body = Lent::new(bytes);
         let (body, length) = (body.pointer(), bytes.len());
         let answer = unsafe { pelisafu_deleted(rows, limit, count, tag, body, length, ordinal) };
         told(answer.number, answer.found, u64::from(answer.found))
     }
 
-    pub(super) fn walk(self, from: u16, out: &mut [u16]) -> Told<u64> {
-        let Self(rows, limit, count, tag, bytes) = self;
+    pub(super) fn walk(&self, from: u16, out: &mut [u16]) -> Told<u64> {
+        let (rows, limit, count, tag, bytes) = self.given();
         let (length, room) = (bytes.len(), out.len());
         let (body, mut out) = (Lent::new(bytes), LentMut::new(out));
         let (body, out) = (body.pointer(), out.pointer());

@@ -42,7 +42,7 @@ fn whole_bitmap(span: u64, body: &[u8]) -> Option<Vec<u64>> {
 }
 
 /// The little-endian number of so many bytes at that place, if it is inside.
-fn number(bytes: &[u8], at: usize, width: usize) -> Option<u64> {
+pub(crate) fn number(bytes: &[u8], at: usize, width: usize) -> Option<u64> {
     let field = bytes.get(at..at + width)?;
     Some(field.iter().rev().fold(0, |n, byte| 256 * n + u64::from(*byte)))
 }

@@ -5,9 +5,7 @@ use super::short::SPANS;
 use crate::plain::bodies::{Part, payload, segmented, whole};
 use crate::plain::costs::{Cost, Stats, whole_forms};
 use crate::plain::{BITMAP, DENSE, LIST16, MISSING, RUNS16, RUNS32, SEGMENTED};
-use crate::random::Random;
-#[cfg(pelisafu)]
-use crate::random::{SHAPES, case};
+use crate::random::{Random, SHAPES, case};
 
 /// Bodies above this are left to `long`.
 const LONGEST: u64 = 1 << 20;
@@ -17,29 +15,35 @@ const LONG: usize = 4_096;
 
 const OTHER_SPANS: [u32; 9] = [63, 64, 65, 255, 256, 257, 4_096, 65_534, 1_000_000];
 
+/// Spans on the bounds of every form.
+pub(crate) fn spans() -> impl Iterator<Item = u32> {
+    SPANS.into_iter().chain(OTHER_SPANS)
+}
+
 pub(super) fn for_each(
     each: &mut impl FnMut(&Reading) -> Result<(), String>,
 ) -> Result<(), String> {
-    for span in SPANS.into_iter().chain(OTHER_SPANS).filter(|span| *span > 0) {
+    for span in spans().filter(|span| *span > 0) {
         for positions in row_sets(u64::from(span)) {
-            whole_bodies(&positions, span).iter().try_for_each(&mut *each)?;
-            let segmented = [1, 7, 300].map(|rows| segmented_body(&positions, span, rows));
-            segmented.iter().flatten().try_for_each(&mut *each)?;
+            in_every_form(&positions, span).iter().try_for_each(&mut *each)?;
         }
     }
     Ok(())
 }
 
 /// Bodies of one random row set in every form that can hold it.
-#[cfg(pelisafu)]
 pub(super) fn drawn(random: &mut Random) -> Vec<Reading> {
     let shape = SHAPES[random.below(SHAPES.len() as u64) as usize];
     let count = 1 + random.below(120) as usize;
     let drawn = case(random, shape, count);
     let positions: Vec<u64> = drawn.rows.iter().map(|row| row - drawn.start).collect();
-    let span = (drawn.end - drawn.start) as u32;
-    let mut all = whole_bodies(&positions, span);
-    all.extend([1, 7, 300].into_iter().filter_map(|rows| segmented_body(&positions, span, rows)));
+    in_every_form(&positions, (drawn.end - drawn.start) as u32)
+}
+
+/// The bodies of every form that can hold the rows, segmented ones with parts of three sizes.
+pub(crate) fn in_every_form(positions: &[u64], span: u32) -> Vec<Reading> {
+    let mut all = whole_bodies(positions, span);
+    all.extend([1, 7, 300].into_iter().filter_map(|rows| segmented_body(positions, span, rows)));
     all
 }
 
@@ -83,7 +87,7 @@ fn whole_bodies(positions: &[u64], span: u32) -> Vec<Reading> {
 
 /// A segmented body with so many rows to a part, the parts' forms taking turns. None where a
 /// part or the directory would be too long for its fields.
-pub(super) fn segmented_body(positions: &[u64], span: u32, rows: usize) -> Option<Reading> {
+pub(crate) fn segmented_body(positions: &[u64], span: u32, rows: usize) -> Option<Reading> {
     let parts = positions.chunks(rows).enumerate();
     let parts: Vec<Part> = parts.map(|(turn, rows)| part(turn, rows)).collect::<Option<_>>()?;
     (parts.len() <= 65_535).then(|| Reading { tag: SEGMENTED, span, body: segmented(&parts) })

@@ -2,7 +2,7 @@
 //! length u16, segments u16, offers u32; then the items, the seed ends as u16, and the body.
 
 use super::{List, item_bytes, items};
-use crate::case::{Case, Piece, Plan};
+use crate::case::{Case, Plan, bad_cases};
 use crate::index::original::{self, Seeds};
 use crate::plain;
 use crate::random::{Random, SHAPES, SOURCES, case, gathered};
@@ -151,41 +151,4 @@ fn row_sets(span: u64) -> Vec<Vec<u64>> {
     sets.retain(|set: &Vec<u64>| !set.is_empty());
     sets.dedup();
     sets
-}
-
-/// Inputs that are refused, and beside each the nearest that is not.
-fn bad_cases() -> Vec<Case> {
-    let mut short_table = Case::new(0, 10, [3, 4, 5]);
-    short_table.gathering = vec![Piece::Page(2)];
-    vec![
-        Case::new(5, 4, [5]),
-        Case::new(5, 5, [5]),
-        Case::new(5, 6, [5]),
-        Case::new(TOP, 0, []),
-        Case::new(0, 4_294_967_296, [0]),
-        Case::new(1, 4_294_967_297, [1]),
-        Case::new(TOP - 4_294_967_296, TOP, [TOP - 65_536, TOP - 1]),
-        Case::new(TOP - 4_294_967_295, TOP, [TOP - 65_536, TOP - 1]),
-        Case::new(TOP - 1, TOP, [TOP - 1]),
-        Case::new(TOP - 1, TOP, [TOP]),
-        Case::new(0, 10, []),
-        Case::new(0, 70_000, 0..65_536),
-        Case::new(0, 70_000, 0..65_537),
-        Case::new(0, 70_000, 0..65_535),
-        Case::new(0, 70_000, 0..65_534),
-        Case::new(0, 10, [3, 3]),
-        Case::new(0, 10, [4, 3]),
-        Case::new(0, 70_000, [69_999, 2]),
-        Case::new(2, 10, [1, 3]),
-        Case::new(2, 10, [2, 9]),
-        Case::new(2, 10, [3, 10]),
-        short_table,
-        Case::new(0, 10, [3, 4, 5]).limited(5),
-        Case::new(0, 10, [3, 4, 5]).limited(6),
-        Case::new(0, 10, 0..10).limited(0),
-        Case::new(0, 10, 1..10).limited(0),
-        // No form takes 40,000 rows that stand 20 apart in 65,535 bytes.
-        Case::new(0, 1_000_000, (0..40_000).map(|n| 20 * n)),
-        Case::new(0, 4_294_967_295, (0..600).map(|n| 200_000 * n)),
-    ]
 }

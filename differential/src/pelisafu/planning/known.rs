@@ -1,6 +1,6 @@
 //! What planning must answer: from the original, and from document 01 written anew.
 
-use super::{Lending, Planned, Request, Right, bytes, words};
+use super::{Lending, Planned, Request, Right, canaries};
 use crate::case::{Case, Plan};
 use crate::index::original::{self, No};
 use crate::plain;
@@ -74,8 +74,8 @@ impl Known {
         let needed = 24 * self.seeds;
         let length = self.plan.as_ref().map_or(SOME_BYTES, |plan| plan.body.len());
         let limit = lending.limit.map_or(usize::MAX, |more| beside(length, more));
-        let mut work = words(beside(needed, lending.work));
-        let mut out = bytes(beside(length, lending.out));
+        let mut work = canaries(beside(needed, lending.work));
+        let mut out = canaries(beside(length, lending.out));
         let number = match &self.plan {
             Err(number) if *number < 5 => *number,
             _ if work.len() < needed => 5,

@@ -38,7 +38,7 @@ fn compare_rows(turn: u64, rows: &[u64], tally: &mut Tally) -> Result<(), String
         let last = rows[rows.len() - 1];
         let end = start + place + last + 1 + [0, 3, 70_000][turn / 3 % 3];
         let mut case = Case::new(start, end, moved);
-        if turn % 2 == 0 {
+        if turn.is_multiple_of(2) {
             case = case.in_pages_of([65_535, 9][turn / 2 % 2]);
         }
         compare_request(&Request::gathered(case), &[EXACT, BOUNDS[turn % 8]], tally)?;
