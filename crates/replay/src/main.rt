@@ -3,6 +3,7 @@
 // body, 3 deletions planned, 4 deletions read), size u32, and so many bytes.
 //
 // Nothing is taken on trust from the list: a number outside of it reads as 0, and a case whose numbers don't come to its size is broken.
+// The functions here compare and print. Their contracts say only what others need to be safe, and what is printed is compared with the file `stdout`.
 mod bodies;
 mod counts;
 mod deletions;
@@ -17,8 +18,7 @@ ghost use mathlib.Core.Path.{_≡_};
 ghost use Prim.Native.Nat.{_+_, _≤_, _<_};
 ghost use lib.ListN.{length};
 
-// How the last case came out: 0 as the list says, 1 the same and so as ordinals too, 2 otherwise, 3 the case is broken. And how many cases
-// came out as the list says.
+// How the run ended: 0 every case came out as the list says, 2 one did not, 3 one is broken. And how many did before that.
 struct Ended {
     how: u8,
     cases: u64,
@@ -31,6 +31,7 @@ fn list_space() -> [u8; 400000]
     [0; 400000]
 }
 
+// How a case came out: 0 as the list says, 1 the same and so as ordinals too, 2 otherwise, 3 the case is broken.
 fn run_case(kind: u8, b: &[u8]) -> u8 {
     if kind == 1 {
         return plans::run(b);
