@@ -17,7 +17,6 @@ use Rattle.cost.specs.Statistics.{statsOf}
 use Rattle.cost.specs.Forms.{orderOf, Over}
 use Rattle.cost.proofs.Joining.{stats-sound}
 use Rattle.planning.specs.Bodies.{segmentedForm}
-use Rattle.planning.proofs.Sound.{pick-most}
 
 order-most : (tag : ℕ) → orderOf tag ≤ 5
 unfolding orderOf

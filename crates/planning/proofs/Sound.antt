@@ -12,7 +12,7 @@ use lib.ListN.{length}
 use borrow.Author.Tests.{eq-eqb, eqb-true, leb-true}
 use Rattle.model.specs.Tests.{pick, both}
 use Rattle.model.specs.Lists.{Rising}
-use Rattle.model.proofs.Tests.{either, both-left, both-right, pick-true, pick-false}
+use Rattle.model.proofs.Tests.{either, both-left, both-right, pick-most, pick-true, pick-false}
 use Rattle.cost.specs.declared.Form.{Form}
 use Rattle.cost.proofs.Stated.{stated-whole}
 use Rattle.gather.proofs.Admitted.{passes}
@@ -48,11 +48,6 @@ module _ {span : ℕ} {xs : List ℕ} {segs : List (List ℕ)} (r : Rising 0 spa
     body-holds = each-holds (formFor span xs segs) (bodyOf span xs segs) (choice span xs segs)
 
 -- ---- the numbers of the tests before merging
-
-pub pick-most : (t : Bool) (a b m : ℕ) → a ≤ m → b ≤ m → pick t a b ≤ m
-unfolding pick
-pick-most true a b m p q = p
-pick-most false a b m p q = q
 
 pub early-most : (start end : ℕ) (rows seeds : List ℕ) (words : ℕ) → earlyNumber start end rows seeds words ≤ 5
 unfolding earlyNumber
