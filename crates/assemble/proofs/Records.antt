@@ -1,9 +1,9 @@
 -- What the records hold: the statistics are the records' own, whatever the rows; and one step along the records. That of given rows they hold one
 -- cut is `held-same` in planning.
 -- Assumes nothing.
-use mathlib.Core.Path.{_≡_, refl, sym, ap, _∙_}
+use mathlib.Core.Path.{_≡_, refl, sym, _∙_}
 use mathlib.Core.List.{List, [], _∷_, _++_, append-assoc, append-nil}
-use Prim.Native.Nat.{ℕ, suc, _<_, _≤_}
+use Prim.Native.Nat.{ℕ, _<_, _≤_}
 use native.Mathlib.Omega.{arith}
 use lib.ListN.{length, length-append}
 use Rattle.cost.specs.Statistics.{statsOf, spanOf}
@@ -13,11 +13,6 @@ use Rattle.planning.specs.Segments.{statsEach}
 use Rattle.planning.specs.Held.{Held, end, more}
 
 -- ---- the statistics are those of the records
-
-pub length-each : (segs : List (List ℕ)) → length (statsEach segs) ≡ length segs
-unfolding statsEach
-length-each [] = refl
-length-each (s ∷ ss) = ap suc (length-each ss)
 
 module _ {n : ℕ} {t : List ℕ} where
   pub same-each : {x : ℕ} {xs ys : List ℕ} {us vs : List (List ℕ)} → Held n t x xs us → Held n t x ys vs → statsEach us ≡ statsEach vs

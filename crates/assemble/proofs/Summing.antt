@@ -26,7 +26,8 @@ use Rattle.planning.specs.Bodies.{payloads, larger, deepest, widest, segmentedF
 use Rattle.planning.specs.Held.{Held}
 use Rattle.assemble.specs.declared.Tally.{Tally}
 use Rattle.assemble.specs.Sums.{one, also, finished, Bounded, Adds, Known, Summed}
-use Rattle.assemble.proofs.Records.{length-each, same-each, same-rows, Ahead, ahead, behind, within}
+use Rattle.planning.proofs.Sized.{length-each}
+use Rattle.assemble.proofs.Records.{same-each, same-rows, Ahead, ahead, behind, within}
 
 -- ---- the larger of two
 

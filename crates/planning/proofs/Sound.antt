@@ -2,7 +2,6 @@
 -- And what the numbers of a plan that is not refused say.
 -- Assumes nothing.
 use mathlib.Core.Path.{_≡_, sym, _∙_}
-use mathlib.Core.Bool.{Bool, true, false}
 use mathlib.Core.Logic.{⊎-elim}
 use mathlib.Core.List.{List}
 use Prim.Native.Nat.{ℕ, _≤_}
@@ -10,7 +9,7 @@ use native.Mathlib.Omega.{arith}
 use lib.Dec.{eqb, leb}
 use lib.ListN.{length}
 use borrow.Author.Tests.{eq-eqb, eqb-true, leb-true}
-use Rattle.model.specs.Tests.{pick, both}
+use Rattle.model.specs.Tests.{both}
 use Rattle.model.specs.Lists.{Rising}
 use Rattle.model.proofs.Tests.{either, both-left, both-right, pick-most, pick-true, pick-false}
 use Rattle.cost.specs.declared.Form.{Form}
