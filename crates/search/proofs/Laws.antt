@@ -3,31 +3,28 @@
 use mathlib.Core.Path.{_≡_, refl, sym, _∙_}
 use mathlib.Core.Bool.{Bool, true, false, cond}
 use mathlib.Core.Logic.{⊎-elim}
-use Prim.Native.Nat.{ℕ, zero, suc, _+_, _-_, _<_, _≤_}
-use native.Mathlib.Nat.{eq-or-lt-of-le}
+use Prim.Native.Nat.{ℕ, zero, suc, _+_, _-_, _*_, _/_, _<_, _≤_}
+use native.Mathlib.Nat.{zero-add, eq-or-lt-of-le, mul-le-mul-right}
 use native.Mathlib.Omega.{arith}
 use lib.Dec.{leb}
-use borrow.Author.Tests.{le-leb, lt-leb, lt-ltb, le-ltb, leb-true, leb-false}
+use borrow.Author.Tests.{le-leb, lt-ltb, le-ltb, leb-true, leb-false}
 use Rattle.model.proofs.Tests.{either, order, never}
 use Rattle.search.specs.Search.{mid, bsearch, find, Falling, Cut, allowed, upTo}
 
--- the three answers of the comparison: within key, within key + i, past both
-pub within : {v key : ℕ} (gaps : Bool) (i : ℕ) → v ≤ key → true ≡ leb v (allowed gaps key i)
-unfolding allowed
-within {v} {key} true i h = sym (le-leb v (key + i) (omega arith))
-within {v} {key} false i h = sym (le-leb v key h)
+-- ---- the comparison as a digit
 
-pub gap-within : (v key i : ℕ) → key < v → leb (v - key) i ≡ leb v (allowed true key i)
-unfolding allowed
-gap-within v key i h =
-    ⊎-elim
-    (λ (e : leb v (key + i) ≡ true). le-leb (v - key) i (omega (arith, leb-true v (key + i) e)) ∙ sym e)
-    (λ (e : leb v (key + i) ≡ false). lt-leb (v - key) i (omega (arith, leb-false v (key + i) e)) ∙ sym e)
-    (either (leb v (key + i)))
+-- no field passes 2^32: to add 2^32 or what is more to the key comes to the same
+pub past-all : {v i : ℕ} (key : ℕ) → v < 4294967296 → 4294967296 ≤ i → leb v (key + 4294967296) ≡ leb v (key + i)
+past-all {v} {i} key h g = le-leb v (key + 4294967296) (omega arith) ∙ sym (le-leb v (key + i) (omega arith))
 
-pub past : {v key : ℕ} (i : ℕ) → key < v → false ≡ leb v (allowed false key i)
-unfolding allowed
-past {v} {key} i h = sym (lt-leb v key h)
+-- 1 where v is at most the bound, else 0
+pub digit : {v bound q : ℕ} (b : Bool) → leb v bound ≡ b → (v ≤ bound → q ≡ 1) → (bound < v → q ≡ 0) → (q ≡ cond b 1 0) × (q ≤ 1)
+digit {v} {bound} true e one none = (one (leb-true v bound e), omega (arith, one (leb-true v bound e)))
+digit {v} {bound} false e one none = (none (leb-false v bound e), omega (arith, none (leb-false v bound e)))
+
+-- 1 or 0 times x
+pub once : {up : ℕ} (x : ℕ) → up ≤ 1 → up * x ≤ x
+once {up} x h = omega (arith, mul-le-mul-right x h)
 
 -- a test `f i ≤ key` falls where f does not
 pub falls-level : (f : ℕ → ℕ) (key n : ℕ) → ((i j : ℕ) → i ≤ j → j < n → f i ≤ f j) → Falling (upTo false f key) n
@@ -171,14 +168,31 @@ module _ (t : ℕ → Bool) where
     pub inside : hi ≤ n
     pub same : find t lo hi ≡ find t 0 n
 
-  pub searching-start : (n : ℕ) → Searching n 0 n
-  searching-start n = record { ordered = omega arith; inside = omega arith; same = refl }
+  pub searching-start : (n : ℕ) → Searching n 0 (0 + n)
+  searching-start n = rw zero-add (record { ordered = omega arith; inside = omega arith; same = refl })
 
-  pub searching-up : (n lo hi : ℕ) → Searching n lo hi → lo < hi → t (mid lo hi) ≡ true → Searching n (mid lo hi + 1) hi
+  searching-up : (n lo hi : ℕ) → Searching n lo hi → lo < hi → t (mid lo hi) ≡ true → Searching n (mid lo hi + 1) hi
   searching-up n lo hi s l e = record { ordered = omega arith; inside = s .inside; same = sym (find-up lo hi l e) ∙ s .same }
 
-  pub searching-down : (n lo hi : ℕ) → Searching n lo hi → lo < hi → t (mid lo hi) ≡ false → Searching n lo (mid lo hi)
+  searching-down : (n lo hi : ℕ) → Searching n lo hi → lo < hi → t (mid lo hi) ≡ false → Searching n lo (mid lo hi)
   searching-down n lo hi s l e = record { ordered = omega arith; inside = omega (arith, s .inside); same = sym (find-down lo hi l e) ∙ s .same }
+
+  moved : (n : ℕ) {lo hi lo′ hi′ : ℕ} → lo′ ≡ lo → hi′ ≡ hi → Searching n lo hi → Searching n lo′ hi′
+  moved n p q s = rw (p, q) s
+
+  -- one turn without a jump: up is 1 or 0
+  pub searching-next : (n lo len : ℕ) {up : ℕ} → Searching n lo (lo + len) → 0 < len → up ≡ cond (t (lo + len / 2)) 1 0
+      → Searching n (lo + up * (len / 2 + 1)) (lo + up * (len / 2 + 1) + (len - up) / 2)
+  searching-next n lo len {up} s l e =
+      let m : mid lo (lo + len) ≡ lo + len / 2 = omega arith in
+      ⊎-elim
+      (λ (h : t (lo + len / 2) ≡ true).
+      let one : up ≡ 1 = e ∙ rw h refl in
+      rw one (moved n (omega arith) (omega arith) (searching-up n lo (lo + len) s (omega arith) (rw m h))))
+      (λ (h : t (lo + len / 2) ≡ false).
+      let none : up ≡ 0 = e ∙ rw h refl in
+      rw none (moved n (omega arith) (omega arith) (searching-down n lo (lo + len) s (omega arith) (rw m h))))
+      (either (t (lo + len / 2)))
 
   pub searching-end : (n lo hi : ℕ) → Searching n lo hi → hi ≤ lo → lo ≡ find t 0 n
   searching-end n lo hi s g = sym (find-done lo hi g) ∙ s .same

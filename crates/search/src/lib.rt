@@ -1,22 +1,29 @@
 // The one binary search of the library, over the fields of a table that lies in a body.
 ghost use mathlib.Core.Path.{_≡_};
 ghost use Prim.Native.Nat.{ℕ, _+_, _*_, _≤_, _<_};
+ghost use mathlib.Core.Bool.{cond};
 ghost use lib.Dec.{leb};
 ghost use lib.ListN.{length};
 ghost use Rattle.fields.specs.Le.{widthOf};
 ghost use Rattle.search.specs.Search.{find, entry, upTo, allowed};
 
-// Whether v is at most key or, where gaps are counted, at most key + i. The sum is never formed, so nothing wraps.
-fn reaches(v: u32, key: u32, i: usize, gaps: bool) -> bool
-    ensures { λ r. ⌜ r ≡ leb v (allowed gaps key i) ⌝ }
+// What is added to the key for field i: nothing or, where gaps are counted, i. No field reaches 2^32, so that what is above it
+// need not be added.
+fn extra(i: usize, gaps: bool) -> u64
+    ensures { λ r. ⌜ (r ≤ 4294967296) × ((v key : ℕ) → v < 4294967296 → leb v (key + r) ≡ leb v (allowed gaps key i)) ⌝ }
 {
-    if v <= key {
-        return true;
-    }
     if gaps {
-        return (v - key) as usize <= i;
+        return if i < 4294967296 { i as u64 } else { 4294967296 };
     }
-    false
+    0
+}
+
+// 1 where v is at most key or, where gaps are counted, at most key + i, else 0. It is a digit of a difference and not a
+// comparison: nothing is known beforehand of how one comes out, and the compiler made a jump of it, which waits for each field.
+fn reached(v: u32, key: u32, i: usize, gaps: bool) -> usize
+    ensures { λ r. ⌜ (r ≡ cond (leb v (allowed gaps key i)) 1 0) × (r ≤ 1) ⌝ }
+{
+    ((8589934592 + extra(i, gaps) + (key as u64) - (v as u64)) / 8589934592) as usize
 }
 
 // The first of n fields that is above key or, where gaps are counted, the first i whose field is above key + i.
@@ -33,19 +40,18 @@ pub fn upper(
     ensures { λ r. ⌜ r ≡ find (upTo gaps (entry (widthOf wide) (now (body .entry)) base stride) key) 0 n ⌝ }
 {
     let mut lo = 0;
-    let mut hi = n;
-    while lo < hi {
-        let mid = lo + (hi - lo) / 2;
-        if reaches(
+    let mut len = n;
+    while 0 < len {
+        let half = len / 2;
+        let mid = lo + half;
+        let up = reached(
             fields::field(body, base + mid * stride, wide),
             key,
             mid,
             gaps,
-        ) {
-            lo = mid + 1;
-        } else {
-            hi = mid;
-        }
+        );
+        lo += up * (half + 1);
+        len = (len - up) / 2;
     }
     lo
 }
