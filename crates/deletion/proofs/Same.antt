@@ -1,14 +1,11 @@
 -- Two results of a call with the same answer are equal, so the contracts of the calls state one result.
 -- Assumes nothing.
 use mathlib.Core.Path.{_≡_, refl, ap}
-use mathlib.Core.List.{List}
-use Prim.Native.Nat.{ℕ}
 use native.Mathlib.Omega.{arith}
-use lib.ListN.{length, getD}
 use Rattle.model.specs.Answers.{Answer}
 use Rattle.deletion.specs.Reading.{countedOf, containedOf}
 use Rattle.plan.specs.Plans.{valuesOf}
-use Rattle.plan.specs.declared.Body.{Body}
+use Rattle.plan.proofs.Same.{bodyFrom}
 use Rattle.deletion.specs.Striking.{struckOf}
 use Rattle.model.proofs.Answers.{same-number, same-size, same-first}
 use Rattle.deletion.specs.declared.Counted.{Counted}
@@ -17,10 +14,6 @@ use Rattle.deletion.specs.declared.Contained.{Contained}
 use Rattle.deletion.specs.declared.Contained.the-variants as contained
 use Rattle.deletion.specs.declared.Struck.{Struck}
 use Rattle.deletion.specs.declared.Struck.the-variants as struck
-
--- a plan from its values
-abbrev bodyFrom : List ℕ → Body
-bodyFrom vs = record { tag = getD vs 0 0; length = getD vs 1 0; segments = getD vs 2 0; offers = getD vs 3 0 }
 
 pub counted-same : (a b : Counted) → countedOf a ≡ countedOf b → a ≡ b
 unfolding countedOf

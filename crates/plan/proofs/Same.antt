@@ -13,7 +13,7 @@ use Rattle.plan.specs.declared.Planned.the-variants.{Made, Refused}
 use Rattle.plan.specs.Plans.{valuesOf, plannedOf}
 
 -- a plan from its values
-abbrev bodyFrom : List ℕ → Body
+abbrev pub bodyFrom : List ℕ → Body
 bodyFrom vs = record { tag = getD vs 0 0; length = getD vs 1 0; segments = getD vs 2 0; offers = getD vs 3 0 }
 
 pub planned-same : (a b : Planned) → plannedOf a ≡ plannedOf b → a ≡ b
