@@ -27,6 +27,7 @@ pub(super) fn lines() -> Vec<Line> {
         line("validate: runs, segmented", "byte", Some(0.6), reading::validate_runs),
         line("validate: dense", "call", Some(0.6), reading::validate_dense),
         line("ranks of rows", "query", Some(0.9), reading::ranks_of_rows),
+        line("ranks of rows in order", "query", Some(0.9), reading::ranks_in_order),
         line("ranks of absent positions", "query", Some(0.9), reading::ranks_of_absent),
         line("one rank", "call", Some(0.6), reading::one_rank),
         line("one select", "call", Some(0.6), reading::one_select),

@@ -33,6 +33,13 @@ pub(super) fn ranks_of_rows(subject: &Subject, meter: Meter) -> Option<Measured>
     Some(ranks(subject, meter, &subject.questions.present))
 }
 
+/// The same questions in rising order, so that a branch can guess its way from one to the next.
+pub(super) fn ranks_in_order(subject: &Subject, meter: Meter) -> Option<Measured> {
+    let mut positions = subject.questions.present.clone();
+    positions.sort_unstable();
+    Some(ranks(subject, meter, &positions))
+}
+
 pub(super) fn ranks_of_absent(subject: &Subject, meter: Meter) -> Option<Measured> {
     let positions = &subject.questions.absent;
     (!positions.is_empty()).then(|| ranks(subject, meter, positions))
