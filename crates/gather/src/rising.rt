@@ -8,7 +8,7 @@ ghost use Rattle.gather.specs.Steps.{Stepped};
 
 // The digits that all of these have: each row less the next one, modulo 2^64. No branch, so that rows are taken two at a
 // time: for that baseline x86-64 has a subtraction of 64 bits, and no comparison. A row is read once and carried on, which
-// takes less time than to read it again at an address that is not even.
+// takes less time than to read it again from eight bytes before.
 fn steps(rows: &[u64]) -> u64
     requires { ⌜ 0 < length (now rows) ⌝ }
     ensures { λ r. ⌜ Stepped r (now (rows .entry)) (length (now (rows .entry)) - 1) ⌝ }
