@@ -25,7 +25,7 @@ pub(super) fn lines() -> Vec<Line> {
     vec![
         line("validate: lists, bitmaps, missing", "byte", Some(0.35), reading::validate_items),
         line("validate: runs, segmented", "byte", Some(0.6), reading::validate_runs),
-        line("validate: dense", "call", Some(0.6), reading::validate_dense),
+        line("validate: dense", "call", None, reading::validate_dense),
         line("ranks of rows", "query", Some(0.9), reading::ranks_of_rows),
         line("ranks of rows in order", "query", Some(0.9), reading::ranks_in_order),
         line("ranks of absent positions", "query", Some(0.9), reading::ranks_of_absent),
