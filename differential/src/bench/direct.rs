@@ -2,7 +2,7 @@
 //! beside guarded pages, which a short call would be measured with.
 
 use crate::pelisafu::calls::{
-    Gathering, pelisafu_add_page, pelisafu_rank, pelisafu_ranks, pelisafu_select,
+    Gathering, pelisafu_add_page, pelisafu_add_row, pelisafu_rank, pelisafu_ranks, pelisafu_select,
     pelisafu_validate, pelisafu_walk,
 };
 use crate::pelisafu::plans::{Means, Planned};
@@ -79,6 +79,17 @@ pub(super) fn gather(rows: &[u64], size: usize, table: &mut [u16]) -> usize {
     for page in rows.chunks(size) {
         let (rows, length) = (page.as_ptr(), page.len());
         let number = unsafe { pelisafu_add_page(&mut record, entries, room, rows, length) };
+        assert!(number == 0, "rows that rise");
+    }
+    record.entries
+}
+
+#[inline]
+pub(super) fn gather_singly(rows: &[u64], table: &mut [u16]) -> usize {
+    let mut record = Gathering::default();
+    let (entries, room) = (table.as_mut_ptr(), table.len());
+    for row in rows {
+        let number = unsafe { pelisafu_add_row(&mut record, entries, room, *row) };
         assert!(number == 0, "rows that rise");
     }
     record.entries

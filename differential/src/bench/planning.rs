@@ -2,7 +2,7 @@
 //! writes into memory that is lent; the original allocates its own, as it does for its callers.
 
 use super::clock::Pair;
-use super::direct::gather;
+use super::direct::{gather, gather_singly};
 use super::meter::{Measured, Meter};
 use super::subject::Subject;
 use crate::case::Case;
@@ -78,10 +78,27 @@ pub(super) fn of_ordinals(subject: &Subject, meter: Meter) -> Option<Measured> {
 
 /// Pages into a table that is lent, and into a vector of the original's that grows.
 pub(super) fn gathering(subject: &Subject, meter: Meter) -> Option<Measured> {
+    gathering_pages_of(PAGE, subject, meter)
+}
+
+pub(super) fn gathering_small(subject: &Subject, meter: Meter) -> Option<Measured> {
+    gathering_pages_of(16, subject, meter)
+}
+
+fn gathering_pages_of(size: usize, subject: &Subject, meter: Meter) -> Option<Measured> {
     let (mut table, rows) = (vec![1; subject.rows()], &subject.row_ids);
     let times = meter.pair(
-        || gather(black_box(&subject.case.rows), PAGE, black_box(&mut table)),
-        || Seeds::in_pages(black_box(rows), PAGE),
+        || gather(black_box(&subject.case.rows), size, black_box(&mut table)),
+        || Seeds::in_pages(black_box(rows), size),
+    );
+    Some((times, subject.rows()))
+}
+
+pub(super) fn gathering_singly(subject: &Subject, meter: Meter) -> Option<Measured> {
+    let (mut table, rows) = (vec![1; subject.rows()], &subject.row_ids);
+    let times = meter.pair(
+        || gather_singly(black_box(&subject.case.rows), black_box(&mut table)),
+        || Seeds::singly(black_box(rows)),
     );
     Some((times, subject.rows()))
 }

@@ -39,6 +39,8 @@ pub(super) fn lines() -> Vec<Line> {
         slow(line("plan, pages of one row", "row", Some(0.8), planning::with_pages_of_one)),
         line("gathering pages of 64 rows", "row", Some(0.8), planning::gathering),
         line("the same, its vector grown before", "row", None, planning::gathering_grown),
+        line("gathering pages of 16 rows", "row", Some(0.8), planning::gathering_small),
+        line("gathering single rows", "row", None, planning::gathering_singly),
         line("deletions: plan", "row", None, deletions::plan),
         line("deletions: check", "call", None, deletions::check),
         line("deletions: one contains", "call", None, deletions::contains),

@@ -102,7 +102,15 @@ impl Seeds {
         seeds
     }
 
-    /// The same into the vector that is there already.
+    /// Row by row, for the benchmark.
+    #[cfg(pelisafu)]
+    pub(crate) fn singly(rows: &[RowID]) -> Self {
+        let mut seeds = Self::default();
+        rows.iter().for_each(|row| seeds.0.append_row(*row));
+        seeds
+    }
+
+    /// Pages into the vector that is there already.
     #[cfg(pelisafu)]
     pub(crate) fn in_pages_again(&mut self, rows: &[RowID], size: usize) {
         forget(&mut self.0);

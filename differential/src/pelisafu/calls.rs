@@ -107,7 +107,12 @@ unsafe extern "C" {
         rows: *const u64,
         rows_length: usize,
     ) -> Gathered;
-    fn pelisafu_add_row(g: *mut Gathering, table: *mut u16, length: usize, row: u64) -> u8;
+    pub(crate) fn pelisafu_add_row(
+        g: *mut Gathering,
+        table: *mut u16,
+        length: usize,
+        row: u64,
+    ) -> u8;
     pub(crate) fn pelisafu_add_page(
         g: *mut Gathering,
         table: *mut u16,
