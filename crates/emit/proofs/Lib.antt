@@ -7,3 +7,4 @@ pub mod Passing
 pub mod Loops
 pub mod Storing
 pub mod Wording
+pub mod Looking

@@ -1,9 +1,9 @@
 -- A loop over rows of either width, by what its positions are.
 -- Assumes nothing.
 use mathlib.Core.Path.{_≡_, sym, _∙_}
-use mathlib.Core.Bool.{true}
+use mathlib.Core.Bool.{true, false}
 use mathlib.Core.List.{List, []}
-use Prim.Native.Nat.{ℕ, _+_, _-_, _<_, _≤_}
+use Prim.Native.Nat.{ℕ, _+_, _-_, _/_, _<_, _≤_}
 use native.Mathlib.Omega.{arith}
 use lib.Dec.{eqb}
 use lib.ListN.{length, getD}
@@ -38,6 +38,10 @@ module _ (base : ℕ) (rows : List ℕ) {i : ℕ} (h : i < length rows) where
   -- the same where a test says which position it is
   pub row-stands-at : {q p : ℕ} → q ≡ getD rows i 0 - base → eqb q p ≡ true → Stands (positionsOf base rows) i p
   row-stands-at {q} {p} a e = (row-inside, sym (row-first a) ∙ eqb-true q p e)
+
+  -- it stands in another word
+  pub row-out : {q : ℕ} (k : ℕ) → q ≡ getD rows i 0 - base → eqb (q / 64) k ≡ false → eqb (getD (positionsOf base rows) i 0 / 64) k ≡ false
+  row-out k a e = rw (← row-first a) e
 
   pub row-end : {b j : ℕ} → Rising base b rows → j ≡ runEnd rows i → j ≡ runEnd (positionsOf base rows) i
   row-end r l = l ∙ sym (run-same base r i h)

@@ -43,8 +43,8 @@ pow-word k = let e : 8 * (8 * k) ≡ 64 * k = omega arith in rw (pow-bytes, e)
 -- ---- positions that stand one behind the other
 
 -- two of them are at least as far apart as their places are
-apart : {b : ℕ} {xs : List ℕ} → Rising 0 b xs → (i j : ℕ) → i ≤ j → j < length xs → getD xs i 0 + (j - i) ≤ getD xs j 0
-apart {b} {xs} r i j h l = ⊎-elim (λ (e : i ≡ j). rw e (omega arith)) (λ (g : i < j). rising-apart r i j g l) (eq-or-lt-of-le h)
+pub apart : {a b : ℕ} {xs : List ℕ} → Rising a b xs → (i j : ℕ) → i ≤ j → j < length xs → getD xs i 0 + (j - i) ≤ getD xs j 0
+apart {xs = xs} r i j h l = ⊎-elim (λ (e : i ≡ j). rw e (omega arith)) (λ (g : i < j). rising-apart r i j g l) (eq-or-lt-of-le h)
 
 module _ {b : ℕ} {xs : List ℕ} (r : Rising 0 b xs) where
   pub indices : length xs ≤ b

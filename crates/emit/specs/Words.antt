@@ -1,8 +1,9 @@
 -- A bitmap's words one after the other: the rows of each, and the rows before each fourth word.
 -- Assumes nothing.
 use mathlib.Core.Path.{_≡_}
+use mathlib.Core.Bool.{false}
 use mathlib.Core.List.{List}
-use Prim.Native.Nat.{ℕ, _+_, _*_, _/_, _%_, _^_, _<_, _≤_}
+use Prim.Native.Nat.{ℕ, _+_, _-_, _*_, _/_, _%_, _^_, _<_, _≤_}
 use lib.Bits.{bitOr}
 use lib.Dec.{eqb}
 use lib.ListN.{length, getD, take}
@@ -10,6 +11,7 @@ use Rattle.fields.specs.Le.{put}
 use Rattle.model.specs.Lists.{range}
 use Rattle.model.specs.Tests.{pick}
 use Rattle.word.specs.Bits.{numFrom}
+use Rattle.emit.specs.declared.Outlook.{Outlook}
 use Rattle.emit.specs.declared.Word.{Word}
 
 -- bits with the digit of a position set
@@ -54,3 +56,28 @@ pub record Wording (xs : List ℕ) (k i : ℕ) (w : Word) : Type 0 where
   pub under : (m : ℕ) → m < w .next → getD xs m 0 < 64 * (k + 1)
   pub small : w .bits < 2 ^ 64
   pub so : numFrom 0 (take (w .next) xs) ≡ w .bits * 2 ^ (64 * k) + numFrom 0 (take i xs)
+
+-- on the way through the word k from w to r, to no index behind stop: r has more of its rows, and those before upto if they are its
+pub record Onward (xs : List ℕ) (k upto stop : ℕ) (w r : Word) : Type 0 where
+  pub kept : (i : ℕ) → Cut xs k i → Wording xs k i w → Wording xs k i r
+  pub within : r .next ≤ stop
+  pub out : r .next < upto → eqb (getD xs (r .next) 0 / 64) k ≡ false
+
+-- ---- rows that stand one behind the other
+
+-- rows that rise: two of them are at least as far apart as their places are. Indices are far from the largest number
+pub record Spaced (rows : List ℕ) : Type 0 where
+  pub apart : (i j : ℕ) → i ≤ j → j < length rows → getD rows i 0 + (j - i) ≤ getD rows j 0
+  pub few : length rows ≤ 4294967295
+
+-- two rows that are as far apart as their places are: so are all between, as they are spaced
+pub record Unbroken (rows : List ℕ) (first last : ℕ) : Type 0 where
+  pub order : first ≤ last
+  pub inside : last < length rows
+  pub so : getD rows last 0 ≡ getD rows first 0 + (last - first)
+
+-- what is known of the rows ahead is so
+pub record Sight (rows : List ℕ) (a : Outlook) : Type 0 where
+  pub order : a .start ≤ a .stop
+  pub inside : a .stop ≤ length rows
+  pub run : a .start < a .stop → Unbroken rows (a .start) (a .stop - 1)

@@ -76,6 +76,19 @@ pub struct Word {
     pub next: usize,
 }
 
+// What is known of the rows ahead: those from index start up to index stop stand one behind the other, where there are any, and
+// those before start are to go in one by one.
+pub struct Outlook {
+    pub start: usize,
+    pub stop: usize,
+}
+
+// A word that is through, and what is known of the rows ahead of it.
+pub struct Passed {
+    pub word: Word,
+    pub ahead: Outlook,
+}
+
 // The digits of a word with one more, by the position that it stands for.
 fn with_digit(bits: u64, position: u32) -> u64
     ensures { λ r. ⌜ r ≡ withDigit bits position ⌝ }

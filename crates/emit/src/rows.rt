@@ -1,7 +1,7 @@
 // Bodies from u64 rows, counted from base: the rows of a whole set, or of one segment as a part of its own.
 ghost use mathlib.Core.Path.{_≡_};
 ghost use mathlib.Core.Bool.{true};
-ghost use Prim.Native.Nat.{_+_, _-_, _*_, _≤_};
+ghost use Prim.Native.Nat.{_+_, _-_, _*_, _<_, _≤_};
 ghost use lib.ListN.{length};
 ghost use Rattle.fields.specs.Le.{widthOf};
 ghost use Rattle.model.specs.Lists.{Rising, positionsOf};
@@ -10,7 +10,9 @@ ghost use Rattle.runs.specs.Runs.{runsLayout};
 ghost use Rattle.missing.specs.Missing.{missingLayout};
 ghost use Rattle.bitmap.specs.Body.{bitmapLength, bitmapLayout};
 ghost use Rattle.emit.specs.Written.{Written};
-ghost use Rattle.emit.specs.Words.{Cut, Stands, Stretch, Worded, Wording};
+ghost use Rattle.emit.specs.Words.{Cut, Onward, Sight, Spaced, Unbroken, Worded};
+use crate::Outlook;
+use crate::Passed;
 use crate::Word;
 use crate::groups_of;
 use crate::in_word;
@@ -77,67 +79,119 @@ pub fn missing_rows(out: &mut [u8], at: usize, rows: &[u64], base: u64, span: u3
     list_run(out, p, from, span - from, false)
 }
 
-// Whether there is a row of index m, and it has the position p.
-fn stands(rows: &[u64], m: usize, base: u64, p: usize) -> bool
-    requires { ⌜ Rising base (base + 4294967295) (now rows) ⌝ }
-    ensures { λ r. ⌜ (r ≡ true → Stands (positionsOf base (now (rows .entry))) m p) ⌝ }
+// Whether there is a row of index last, and those from index first to it stand one behind the other. Since rows rise, the two at
+// the ends say so of all between.
+fn unbroken(rows: &[u64], first: usize, last: usize) -> bool
+    requires { ⌜ (Spaced (now rows)) × (first ≤ last) ⌝ }
+    ensures { λ r. ⌜ (r ≡ true → Unbroken (now (rows .entry)) first last) ⌝ }
 {
-    if m < rows.len() {
-        return cost::position(rows[m], base) as usize == p;
+    if last < rows.len() {
+        return (rows[last] - rows[first]) as usize == last - first;
     }
     false
 }
 
-// How many rows of a long run, from that of index j and position q on, lie in the word of q: it has 32 rows at least. Since rows
-// rise, the row at the word's end says whether all before it are there. If not, the run ends before, and its end is looked for.
-fn run_rows(rows: &[u64], j: usize, base: u64, q: u32) -> usize
-    requires { ⌜ (Rising base (base + 4294967295) (now rows)) × (Stands (positionsOf base (now rows)) j q) × Stands (positionsOf base (now rows)) (j + 31) (q + 31) ⌝ }
-    ensures { λ r. ⌜ Stretch (positionsOf base (now (rows .entry))) j q r ⌝ }
+// The index of the last row of the run that the row of index at stands in. A step is taken while the run has rows for it, and then
+// halved: a test for 32 rows of a long run, and few at its end.
+fn run_last(rows: &[u64], at: usize) -> usize
+    requires { ⌜ (Spaced (now rows)) × (at < length (now rows)) ⌝ }
+    ensures { λ r. ⌜ Unbroken (now (rows .entry)) at r ⌝ }
 {
-    let first = q as usize;
-    let room = 64 - first % 64;
-    if stands(rows, j + (room - 1), base, first + (room - 1)) {
-        return room;
-    }
-    let mut n = least(32, room);
-    while n < room {
-        if !stands(rows, j + n, base, first + n) {
-            return n;
+    let mut last = at;
+    let mut step = 32;
+    while step > 0 {
+        if unbroken(rows, last, last + step) {
+            last += step;
+        } else {
+            step = step / 2;
         }
-        n += 1;
     }
-    n
+    last
 }
 
-// The rows that begin the word k, from that of index i on, where they are a run of 32 or more: they go in by one mask. Of a
-// shorter run none go in here. To look for the ends of short runs costs more by wrong guesses than their digits do.
-fn front_rows(rows: &[u64], i: usize, base: u64, k: usize) -> Word
-    requires { ⌜ (Rising base (base + 4294967295) (now rows)) × Cut (positionsOf base (now rows)) k i ⌝ }
-    ensures { λ r. ⌜ Wording (positionsOf base (now (rows .entry))) k i r ⌝ }
+// Whether the run that the row of index at stands in has a step of rows before it, none of which lies before index from.
+fn reaches(rows: &[u64], from: usize, at: usize, step: usize) -> bool
+    requires { ⌜ (Spaced (now rows)) × (from ≤ length (now rows)) × (step ≤ 16) ⌝ }
+    ensures { λ r. ⌜ (r ≡ true → (step ≤ at) × Unbroken (now (rows .entry)) (at - step) at) ⌝ }
 {
-    let none = Word { bits: 0, next: i };
-    if rows.len() <= i {
-        return none;
+    if from + step <= at {
+        return unbroken(rows, at - step, at);
     }
-    let q = cost::position(rows[i], base);
-    if !stands(rows, i + 31, base, q as usize + 31) {
-        return none;
-    }
-    if !in_word(q, k) {
-        return none;
-    }
-    with_run(none, q, run_rows(rows, i, base, q))
+    false
 }
 
-// The digits of the word k, whose first row is that of index i.
-fn word_rows(rows: &[u64], i: usize, base: u64, k: usize) -> Word
-    requires { ⌜ (Rising base (base + 4294967295) (now rows)) × Cut (positionsOf base (now rows)) k i ⌝ }
-    ensures { λ r. ⌜ Worded (positionsOf base (now (rows .entry))) k i r ⌝ }
+// The index of the first row of the run that the row of index at stands in, or from where the run begins before that. The steps are
+// for less than 32 rows, as between two blocks of a look ahead.
+fn run_first(rows: &[u64], from: usize, at: usize) -> usize
+    requires { ⌜ (Spaced (now rows)) × (from ≤ at) × (at < length (now rows)) ⌝ }
+    ensures { λ r. ⌜ Unbroken (now (rows .entry)) r at ⌝ }
 {
-    let front = front_rows(rows, i, base, k);
-    let mut bits = front.bits;
-    let mut j = front.next;
-    while j < rows.len() {
+    let mut first = at;
+    let mut step = 16;
+    while step > 0 {
+        if reaches(rows, from, first, step) {
+            first -= step;
+        } else {
+            step = step / 2;
+        }
+    }
+    first
+}
+
+// A look ahead from the row of index from on: for a block of 32 rows that stand one behind the other there, 32 rows behind it, or 64.
+// A run of 63 rows or more that begins at one of the next 64 rows has all rows of one of these blocks, wherever it begins, so that
+// none is missed. The run of the first block found is ahead, whole. If none is found, the 64 rows go in one by one.
+fn look(rows: &[u64], from: usize) -> Outlook
+    requires { ⌜ (Spaced (now rows)) × (from < length (now rows)) ⌝ }
+    ensures { λ r. ⌜ (Sight (now (rows .entry)) r) × (from < r .stop) ⌝ }
+{
+    let mut at = from;
+    while at < from + 96 {
+        if unbroken(rows, at, at + 31) {
+            let start = run_first(rows, from, at);
+            let last = run_last(rows, at + 31);
+            return Outlook {
+                start: start,
+                stop: last + 1,
+            };
+        }
+        at += 32;
+    }
+    let none = least(from + 64, rows.len());
+    Outlook {
+        start: none,
+        stop: none,
+    }
+}
+
+// What is known of the rows ahead of the one of index next: as before while it is in a run or before one. If no run is in sight, the
+// next look is due when less than 64 rows are left of those that were looked at: a word has no more.
+fn ahead_of(rows: &[u64], next: usize, ahead: Outlook) -> Outlook
+    requires { ⌜ (Spaced (now rows)) × (Sight (now rows) ahead) × (next ≤ ahead .stop) × (next < length (now rows)) ⌝ }
+    ensures { λ r. ⌜ (Sight (now (rows .entry)) r) × (next < r .stop) ⌝ }
+{
+    if next < ahead.stop {
+        if ahead.start < ahead.stop {
+            return ahead;
+        }
+        if next + 64 <= ahead.stop {
+            return ahead;
+        }
+    }
+    if rows.len() <= ahead.stop {
+        return ahead;
+    }
+    look(rows, ahead.stop)
+}
+
+// The word k with its rows before the run ahead, digit by digit.
+fn single_rows(rows: &[u64], word: Word, ahead: Outlook, base: u64, k: usize) -> Word
+    requires { ⌜ (Rising base (base + 4294967295) (now rows)) × (Sight (now rows) ahead) × (word .next ≤ ahead .stop) ⌝ }
+    ensures { λ r. ⌜ Onward (positionsOf base (now (rows .entry))) k (ahead .start) (ahead .stop) word r ⌝ }
+{
+    let mut bits = word.bits;
+    let mut j = word.next;
+    while j < ahead.start {
         let q = cost::position(rows[j], base);
         if !in_word(q, k) {
             return Word {
@@ -154,6 +208,59 @@ fn word_rows(rows: &[u64], i: usize, base: u64, k: usize) -> Word
     }
 }
 
+// The word k with its rows of the run ahead, by one mask: as many as the word has room for, or the run has.
+fn run_rows(rows: &[u64], word: Word, ahead: Outlook, base: u64, k: usize) -> Word
+    requires { ⌜ (Rising base (base + 4294967295) (now rows)) × (Sight (now rows) ahead) × (ahead .start ≤ word .next) × (word .next ≤ ahead .stop) ⌝ }
+    ensures { λ r. ⌜ Onward (positionsOf base (now (rows .entry))) k (ahead .stop) (ahead .stop) word r ⌝ }
+{
+    let j = word.next;
+    if ahead.stop <= j {
+        return word;
+    }
+    let q = cost::position(rows[j], base);
+    if !in_word(q, k) {
+        return word;
+    }
+    let room = 64 - (q % 64) as usize;
+    with_run(word, q, least(room, ahead.stop - j))
+}
+
+// The word k with its rows up to the end of the run ahead.
+fn more_rows(rows: &[u64], word: Word, ahead: Outlook, base: u64, k: usize) -> Word
+    requires { ⌜ (Rising base (base + 4294967295) (now rows)) × (Sight (now rows) ahead) × (word .next ≤ ahead .stop) ⌝ }
+    ensures { λ r. ⌜ Onward (positionsOf base (now (rows .entry))) k (ahead .stop) (ahead .stop) word r ⌝ }
+{
+    let single = single_rows(rows, word, ahead, base, k);
+    if single.next < ahead.start {
+        return single;
+    }
+    run_rows(rows, single, ahead, base, k)
+}
+
+// The digits of the word k, whose first row is that of index i: up to the end of one run after the other, until a row stands in
+// another word.
+fn word_rows(rows: &[u64], i: usize, seen: Outlook, base: u64, k: usize) -> Passed
+    requires { ⌜ (Rising base (base + 4294967295) (now rows)) × (Cut (positionsOf base (now rows)) k i) × (Sight (now rows) seen) × (i ≤ seen .stop) ⌝ }
+    ensures { λ r. ⌜ (Worded (positionsOf base (now (rows .entry))) k i (r .word)) × (Sight (now (rows .entry)) (r .ahead)) × (r .word .next ≤ r .ahead .stop) ⌝ }
+{
+    let mut ahead = seen;
+    let mut word = Word { bits: 0, next: i };
+    while word.next < rows.len() {
+        ahead = ahead_of(rows, word.next, ahead);
+        word = more_rows(rows, word, ahead, base, k);
+        if word.next < ahead.stop {
+            return Passed {
+                word: word,
+                ahead: ahead,
+            };
+        }
+    }
+    Passed {
+        word: word,
+        ahead: ahead,
+    }
+}
+
 pub fn bitmap_rows(out: &mut [u8], at: usize, rows: &[u64], base: u64, span: u32) -> usize
     requires { ⌜ (Rising base (base + span) (now rows)) × (at + bitmapLength span ≤ length (now out)) ⌝ }
     ensures { λ r. ⌜ Written (bitmapLayout span (positionsOf base (now (rows .entry)))) at (now (out .entry)) (now (out .exit)) r ⌝ }
@@ -161,12 +268,15 @@ pub fn bitmap_rows(out: &mut [u8], at: usize, rows: &[u64], base: u64, span: u32
     let words = words_of(span);
     let mut p = at + 2 * groups_of(words);
     let mut i = 0;
+    let mut ahead = Outlook { start: 0, stop: 0 };
     let mut k = 0;
     while k < words {
-        let word = word_rows(rows, i, base, k);
+        let passed = word_rows(rows, i, ahead, base, k);
+        let word = passed.word;
         put_before(out, at, k, i);
         fields::put64(out, p, word.bits);
         i = word.next;
+        ahead = passed.ahead;
         p += 8;
         k += 1;
     }
