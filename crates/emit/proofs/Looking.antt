@@ -13,9 +13,9 @@ use Rattle.model.proofs.Positions.{length-positions, getD-positions}
 use Rattle.model.proofs.Rising.{rising-from, rising-room}
 use Rattle.emit.specs.declared.Outlook.{Outlook}
 use Rattle.emit.specs.declared.Word.{Word}
-use Rattle.emit.specs.Words.{withDigit, withRun, Cut, Worded, Wording, Stands, Stretch, Onward, Spaced, Unbroken, Sight}
-use Rattle.emit.proofs.Passing.{positions-below}
-use Rattle.emit.proofs.Wording.{apart, wording-run, wording-next, wording-stop}
+use Rattle.emit.specs.Words.{withDigit, withRun, Cut, Worded, Wording, Onward, Spaced, Unbroken, Sight}
+use Rattle.emit.proofs.Passing.{Stands, positions-below}
+use Rattle.emit.proofs.Wording.{Stretch, apart, wording-run, wording-next, wording-stop}
 
 pub spaced : {base : ℕ} {rows : List ℕ} → Rising base (base + 4294967295) rows → Spaced rows
 spaced r = record { apart = apart r; few = omega (arith, rising-room (omega arith) r) }

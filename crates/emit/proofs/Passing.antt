@@ -1,7 +1,7 @@
 -- A loop over rows of either width, by what its positions are.
 -- Assumes nothing.
 use mathlib.Core.Path.{_≡_, sym, _∙_}
-use mathlib.Core.Bool.{true, false}
+use mathlib.Core.Bool.{false}
 use mathlib.Core.List.{List, []}
 use Prim.Native.Nat.{ℕ, _+_, _-_, _/_, _<_, _≤_}
 use native.Mathlib.Omega.{arith}
@@ -10,14 +10,16 @@ use lib.ListN.{length, getD}
 use Rattle.model.specs.Lists.{Rising, runsOf, positionsOf}
 use Rattle.cost.specs.Rows.{runEnd}
 use Rattle.model.proofs.Positions.{length-positions, getD-positions, positions-rising}
-use borrow.Author.Tests.{eqb-true}
 use Rattle.emit.specs.Written.{Written}
-use Rattle.emit.specs.Words.{Stands}
 use Rattle.emit.proofs.Emitting.{Emitting, emitting-end}
 use Rattle.emit.proofs.Alike.{run-same}
 use Rattle.emit.proofs.Rowing.{Form, Step, Rowing, Ahead, rowing-start, rowing-ahead, rowing-room, rowing-next, rowing-done}
 
 -- ---- rows and their positions by index
+
+-- the position p stands at index m
+abbrev pub Stands : List ℕ → ℕ → ℕ → Type 0
+Stands xs m p = (m < length xs) × (getD xs m 0 ≡ p)
 
 pub positions-below : (base b : ℕ) {rows : List ℕ} → Rising base (base + b) rows → Rising 0 b (positionsOf base rows)
 positions-below base b r =
@@ -34,10 +36,6 @@ module _ (base : ℕ) (rows : List ℕ) {i : ℕ} (h : i < length rows) where
 
   pub row-stands : {q : ℕ} → q ≡ getD rows i 0 - base → Stands (positionsOf base rows) i q
   row-stands a = (row-inside, sym (row-first a))
-
-  -- the same where a test says which position it is
-  pub row-stands-at : {q p : ℕ} → q ≡ getD rows i 0 - base → eqb q p ≡ true → Stands (positionsOf base rows) i p
-  row-stands-at {q} {p} a e = (row-inside, sym (row-first a) ∙ eqb-true q p e)
 
   -- it stands in another word
   pub row-out : {q : ℕ} (k : ℕ) → q ≡ getD rows i 0 - base → eqb (q / 64) k ≡ false → eqb (getD (positionsOf base rows) i 0 / 64) k ≡ false

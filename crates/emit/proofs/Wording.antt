@@ -4,7 +4,7 @@ use mathlib.Core.Path.{_≡_, refl, sym, ap, subst, _∙_}
 use mathlib.Core.Bool.{true, false}
 use mathlib.Core.Logic.{⊎-elim}
 use mathlib.Core.List.{List, [], _∷_, _++_, append-assoc, append-nil}
-use Prim.Native.Nat.{ℕ, zero, suc, _+_, _-_, _*_, _/_, _%_, _^_, _<_, _≤_, min}
+use Prim.Native.Nat.{ℕ, zero, suc, _+_, _-_, _*_, _/_, _%_, _^_, _<_, _≤_}
 use native.Mathlib.Nat.{zero-add, add-zero, add-suc, sub-zero, add-mul, eq-or-lt-of-le}
 use native.Mathlib.Numerals.{add-one}
 use native.Mathlib.Omega.{arith}
@@ -22,8 +22,8 @@ use Rattle.model.specs.Tests.{flat}
 use Rattle.model.specs.Lists.{Rising, below, range}
 use Rattle.model.proofs.Ranges.{range-append}
 use Rattle.model.proofs.Sets.{sets-append}
-use Rattle.model.proofs.Tests.{either, order, never, strictly, last-or-before, same-or-not, pick-true, pick-false}
-use Rattle.model.proofs.Rising.{rising-below, rising-before, rising-apart, rising-room}
+use Rattle.model.proofs.Tests.{either, order, never, strictly, same-or-not, pick-true, pick-false}
+use Rattle.model.proofs.Rising.{rising-below, rising-before, rising-apart}
 use Rattle.model.proofs.Standing.{below-cut}
 use Rattle.word.specs.Bits.{numFrom}
 use Rattle.word.proofs.Numbers.{num-lt}
@@ -31,7 +31,8 @@ use Rattle.word.proofs.Masks.{num-append, range-or, range-lt, range-up}
 use Rattle.bitmap.specs.Body.{wordsOf, groupsOf, bitmapLength, bitmapLayout}
 use Rattle.emit.specs.declared.Word.{Word}
 use Rattle.emit.specs.Written.{Written}
-use Rattle.emit.specs.Words.{withDigit, withRun, countedAt, Cut, Worded, Stands, Stretch, Wording}
+use Rattle.emit.specs.Words.{withDigit, withRun, countedAt, Cut, Worded, Wording}
+use Rattle.emit.proofs.Passing.{Stands}
 use Rattle.emit.proofs.Storing.{put-comm}
 
 num-below : {b : ℕ} {xs : List ℕ} → Rising 0 b xs → (i : ℕ) → i < length xs → {start : ℕ} → start ≡ getD xs i 0 → numFrom 0 (take i xs) < 2 ^ start
@@ -46,36 +47,15 @@ pow-word k = let e : 8 * (8 * k) ≡ 64 * k = omega arith in rw (pow-bytes, e)
 pub apart : {a b : ℕ} {xs : List ℕ} → Rising a b xs → (i j : ℕ) → i ≤ j → j < length xs → getD xs i 0 + (j - i) ≤ getD xs j 0
 apart {xs = xs} r i j h l = ⊎-elim (λ (e : i ≡ j). rw e (omega arith)) (λ (g : i < j). rising-apart r i j g l) (eq-or-lt-of-le h)
 
-module _ {b : ℕ} {xs : List ℕ} (r : Rising 0 b xs) where
-  pub indices : length xs ≤ b
-  indices = rw zero-add at (rising-room {a = 0} (omega arith) r)
+-- n of them from index j on, the first of them q, all in the word of q
+pub record Stretch (xs : List ℕ) (j q n : ℕ) : Type 0 where
+  pub some : 1 ≤ n
+  pub fits : q % 64 + n ≤ 64
+  pub inside : j + n ≤ length xs
+  pub each : (m : ℕ) → m < n → getD xs (j + m) 0 ≡ q + m
 
-  module _ {j q : ℕ} (f : Stands xs j q) where
-    pub stretch-one : Stretch xs j q 1
-    stretch-one = record { some = omega arith; fits = omega arith; inside = omega (arith, f .0); each = λ m h. let z : m ≡ 0 = omega arith in rw (z, add-zero, add-zero) (f .1) }
-
-    -- the first n of m, by the last of those
-    pub stretch-upto : (m n : ℕ) → 1 ≤ n → n ≤ m → q % 64 + n ≤ 64 → Stands xs (j + (m - 1)) (q + (m - 1)) → Stretch xs j q n
-    stretch-upto m n some upto fits t =
-        record {
-          some = some;
-          fits = fits;
-          inside = omega (arith, t .0);
-          each = λ x h. let l : j + x < length xs = omega (arith, t .0) in omega (arith, apart r j (j + x) (omega arith) l, apart r (j + x) (j + (m - 1)) (omega arith) (t .0), f .1, t .1);
-        }
-
-    -- as many of 32 as the word has room for
-    pub stretch-least : {n : ℕ} → n ≡ min 32 (64 - q % 64) → Stands xs (j + 31) (q + 31) → Stretch xs j q n
-    stretch-least {n} e t = stretch-upto 32 n (omega (arith, e)) (omega (arith, e)) (omega (arith, e)) t
-
-  pub stretch-more : {j q n : ℕ} → Stretch xs j q n → q % 64 + n < 64 → Stands xs (j + n) (q + n) → Stretch xs j q (n + 1)
-  stretch-more {j} {q} {n} s h t =
-      record {
-        some = omega arith;
-        fits = omega arith;
-        inside = omega (arith, t .0);
-        each = λ m l. ⊎-elim (λ (z : m ≡ n). rw z (t .1)) (λ (z : m < n). s .each m z) (last-or-before (rw (add-one n) at l));
-      }
+stretch-one : {xs : List ℕ} {j q : ℕ} → Stands xs j q → Stretch xs j q 1
+stretch-one f = record { some = omega arith; fits = omega arith; inside = omega (arith, f .0); each = λ m h. let z : m ≡ 0 = omega arith in rw (z, add-zero, add-zero) (f .1) }
 
 take-stretch : (xs : List ℕ) (j q n : ℕ) → j + n ≤ length xs → ((m : ℕ) → m < n → getD xs (j + m) 0 ≡ q + m) → take (j + n) xs ≡ take j xs ++ range q n
 unfolding range
@@ -130,17 +110,12 @@ module _ {xs : List ℕ} {k i : ℕ} (c : Cut xs k i) where
           so = rw o (omega (arith, one, two, three, s .so));
         }
 
--- the front of the word
-module _ {xs : List ℕ} {k i : ℕ} (c : Cut xs k i) where
-  pub wording-front : {b q n : ℕ} {m : Word} → Rising 0 b xs → Stretch xs i q n → eqb (q / 64) k ≡ true → m ≡ withRun (record { bits = 0; next = i }) q n → Wording xs k i m
-  wording-front r t e d = rw d (wording-run c (wording-start c) r t e)
-
-  -- a single row behind it: a mask of one
+  -- a single row is a mask of one
   pub wording-next : {j bits b q more : ℕ} → Wording xs k i (record { bits = bits; next = j }) → Rising 0 b xs → Stands xs j q → eqb (q / 64) k ≡ true → more ≡ withDigit bits q → Wording xs k i (record { bits = more; next = j + 1 })
   unfolding numFrom range
   wording-next {j} {bits} {b} {q} {more} s r f e d =
       let one : numFrom 0 (range (q % 64) 1) ≡ 2 ^ (q % 64) = rw sub-zero (omega arith) in
-      rw (d, ← one) (wording-run c s r (stretch-one r f) e)
+      rw (d, ← one) (wording-run s r (stretch-one f) e)
 
 pub cut-start : (xs : List ℕ) → Cut xs 0 0
 unfolding numFrom

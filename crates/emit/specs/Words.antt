@@ -38,17 +38,6 @@ pub record Worded (xs : List ℕ) (k i : ℕ) (r : Word) : Type 0 where
   pub cut : Cut xs (k + 1) (r .next)
   pub so : numFrom 0 (take (r .next) xs) ≡ r .bits * 2 ^ (64 * k) + numFrom 0 (take i xs)
 
--- the position p stands at index m
-abbrev pub Stands : List ℕ → ℕ → ℕ → Type 0
-Stands xs m p = (m < length xs) × (getD xs m 0 ≡ p)
-
--- n positions from index j on stand one behind the other, the first of them q, all in the word of q
-pub record Stretch (xs : List ℕ) (j q n : ℕ) : Type 0 where
-  pub some : 1 ≤ n
-  pub fits : q % 64 + n ≤ 64
-  pub inside : j + n ≤ length xs
-  pub each : (m : ℕ) → m < n → getD xs (j + m) 0 ≡ q + m
-
 -- on the way through the positions of the word k, from index i on: the digits of those before the next are set
 pub record Wording (xs : List ℕ) (k i : ℕ) (w : Word) : Type 0 where
   pub begun : i ≤ w .next

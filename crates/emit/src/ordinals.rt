@@ -1,7 +1,7 @@
 // Bodies from u16 ordinals, counted from base: as from u64 rows.
 ghost use mathlib.Core.Path.{_≡_};
 ghost use mathlib.Core.Bool.{true};
-ghost use Prim.Native.Nat.{_+_, _-_, _*_, _≤_};
+ghost use Prim.Native.Nat.{_+_, _-_, _*_, _<_, _≤_};
 ghost use lib.ListN.{length};
 ghost use Rattle.fields.specs.Le.{widthOf};
 ghost use Rattle.model.specs.Lists.{Rising, positionsOf};
@@ -10,7 +10,9 @@ ghost use Rattle.runs.specs.Runs.{runsLayout};
 ghost use Rattle.missing.specs.Missing.{missingLayout};
 ghost use Rattle.bitmap.specs.Body.{bitmapLength, bitmapLayout};
 ghost use Rattle.emit.specs.Written.{Written};
-ghost use Rattle.emit.specs.Words.{Cut, Stands, Stretch, Worded, Wording};
+ghost use Rattle.emit.specs.Words.{Cut, Onward, Sight, Spaced, Unbroken, Worded};
+use crate::Outlook;
+use crate::Passed;
 use crate::Word;
 use crate::groups_of;
 use crate::in_word;
@@ -83,65 +85,113 @@ pub fn missing_ordinals(out: &mut [u8], at: usize, ordinals: &[u16], base: u16, 
     list_run(out, p, from, span - from, false)
 }
 
-// Whether there is a row of index m, and it has the position p.
-fn stands16(ordinals: &[u16], m: usize, base: u16, p: usize) -> bool
-    requires { ⌜ Rising base (base + 4294967295) (now ordinals) ⌝ }
-    ensures { λ r. ⌜ (r ≡ true → Stands (positionsOf base (now (ordinals .entry))) m p) ⌝ }
+// Whether there is a row of index last, and those from index first to it stand one behind the other, as of rows.
+fn unbroken16(ordinals: &[u16], first: usize, last: usize) -> bool
+    requires { ⌜ (Spaced (now ordinals)) × (first ≤ last) ⌝ }
+    ensures { λ r. ⌜ (r ≡ true → Unbroken (now (ordinals .entry)) first last) ⌝ }
 {
-    if m < ordinals.len() {
-        return position16(ordinals[m], base) as usize == p;
+    if last < ordinals.len() {
+        return (ordinals[last] - ordinals[first]) as usize == last - first;
     }
     false
 }
 
-// How many of a long run lie in a word, as of rows.
-fn run_ordinals(ordinals: &[u16], j: usize, base: u16, q: u32) -> usize
-    requires { ⌜ (Rising base (base + 4294967295) (now ordinals)) × (Stands (positionsOf base (now ordinals)) j q) × Stands (positionsOf base (now ordinals)) (j + 31) (q + 31) ⌝ }
-    ensures { λ r. ⌜ Stretch (positionsOf base (now (ordinals .entry))) j q r ⌝ }
+// The index of the last row of a run, as of rows.
+fn run_last16(ordinals: &[u16], at: usize) -> usize
+    requires { ⌜ (Spaced (now ordinals)) × (at < length (now ordinals)) ⌝ }
+    ensures { λ r. ⌜ Unbroken (now (ordinals .entry)) at r ⌝ }
 {
-    let first = q as usize;
-    let room = 64 - first % 64;
-    if stands16(ordinals, j + (room - 1), base, first + (room - 1)) {
-        return room;
-    }
-    let mut n = least(32, room);
-    while n < room {
-        if !stands16(ordinals, j + n, base, first + n) {
-            return n;
+    let mut last = at;
+    let mut step = 32;
+    while step > 0 {
+        if unbroken16(ordinals, last, last + step) {
+            last += step;
+        } else {
+            step = step / 2;
         }
-        n += 1;
     }
-    n
+    last
 }
 
-// The rows that begin a word, where they are a long run, as of rows.
-fn front_ordinals(ordinals: &[u16], i: usize, base: u16, k: usize) -> Word
-    requires { ⌜ (Rising base (base + 4294967295) (now ordinals)) × Cut (positionsOf base (now ordinals)) k i ⌝ }
-    ensures { λ r. ⌜ Wording (positionsOf base (now (ordinals .entry))) k i r ⌝ }
+// Whether a run has a step of rows more before it, as of rows.
+fn reaches16(ordinals: &[u16], from: usize, at: usize, step: usize) -> bool
+    requires { ⌜ (Spaced (now ordinals)) × (from ≤ length (now ordinals)) × (step ≤ 16) ⌝ }
+    ensures { λ r. ⌜ (r ≡ true → (step ≤ at) × Unbroken (now (ordinals .entry)) (at - step) at) ⌝ }
 {
-    let none = Word { bits: 0, next: i };
-    if ordinals.len() <= i {
-        return none;
+    if from + step <= at {
+        return unbroken16(ordinals, at - step, at);
     }
-    let q = position16(ordinals[i], base);
-    if !stands16(ordinals, i + 31, base, q as usize + 31) {
-        return none;
-    }
-    if !in_word(q, k) {
-        return none;
-    }
-    with_run(none, q, run_ordinals(ordinals, i, base, q))
+    false
 }
 
-// The digits of the word k, whose first row is that of index i.
-fn word_ordinals(ordinals: &[u16], i: usize, base: u16, k: usize) -> Word
-    requires { ⌜ (Rising base (base + 4294967295) (now ordinals)) × Cut (positionsOf base (now ordinals)) k i ⌝ }
-    ensures { λ r. ⌜ Worded (positionsOf base (now (ordinals .entry))) k i r ⌝ }
+// The index of the first row of a run, as of rows.
+fn run_first16(ordinals: &[u16], from: usize, at: usize) -> usize
+    requires { ⌜ (Spaced (now ordinals)) × (from ≤ at) × (at < length (now ordinals)) ⌝ }
+    ensures { λ r. ⌜ Unbroken (now (ordinals .entry)) r at ⌝ }
 {
-    let front = front_ordinals(ordinals, i, base, k);
-    let mut bits = front.bits;
-    let mut j = front.next;
-    while j < ordinals.len() {
+    let mut first = at;
+    let mut step = 16;
+    while step > 0 {
+        if reaches16(ordinals, from, first, step) {
+            first -= step;
+        } else {
+            step = step / 2;
+        }
+    }
+    first
+}
+
+// A look ahead, as over rows.
+fn look16(ordinals: &[u16], from: usize) -> Outlook
+    requires { ⌜ (Spaced (now ordinals)) × (from < length (now ordinals)) ⌝ }
+    ensures { λ r. ⌜ (Sight (now (ordinals .entry)) r) × (from < r .stop) ⌝ }
+{
+    let mut at = from;
+    while at < from + 96 {
+        if unbroken16(ordinals, at, at + 31) {
+            let start = run_first16(ordinals, from, at);
+            let last = run_last16(ordinals, at + 31);
+            return Outlook {
+                start: start,
+                stop: last + 1,
+            };
+        }
+        at += 32;
+    }
+    let none = least(from + 64, ordinals.len());
+    Outlook {
+        start: none,
+        stop: none,
+    }
+}
+
+// What is known of the rows ahead, as of rows.
+fn ahead_of16(ordinals: &[u16], next: usize, ahead: Outlook) -> Outlook
+    requires { ⌜ (Spaced (now ordinals)) × (Sight (now ordinals) ahead) × (next ≤ ahead .stop) × (next < length (now ordinals)) ⌝ }
+    ensures { λ r. ⌜ (Sight (now (ordinals .entry)) r) × (next < r .stop) ⌝ }
+{
+    if next < ahead.stop {
+        if ahead.start < ahead.stop {
+            return ahead;
+        }
+        if next + 64 <= ahead.stop {
+            return ahead;
+        }
+    }
+    if ordinals.len() <= ahead.stop {
+        return ahead;
+    }
+    look16(ordinals, ahead.stop)
+}
+
+// The word k with its rows before the run ahead, digit by digit.
+fn single_ordinals(ordinals: &[u16], word: Word, ahead: Outlook, base: u16, k: usize) -> Word
+    requires { ⌜ (Rising base (base + 4294967295) (now ordinals)) × (Sight (now ordinals) ahead) × (word .next ≤ ahead .stop) ⌝ }
+    ensures { λ r. ⌜ Onward (positionsOf base (now (ordinals .entry))) k (ahead .start) (ahead .stop) word r ⌝ }
+{
+    let mut bits = word.bits;
+    let mut j = word.next;
+    while j < ahead.start {
         let q = position16(ordinals[j], base);
         if !in_word(q, k) {
             return Word {
@@ -158,6 +208,58 @@ fn word_ordinals(ordinals: &[u16], i: usize, base: u16, k: usize) -> Word
     }
 }
 
+// The word k with its rows of the run ahead, by one mask.
+fn run_ordinals(ordinals: &[u16], word: Word, ahead: Outlook, base: u16, k: usize) -> Word
+    requires { ⌜ (Rising base (base + 4294967295) (now ordinals)) × (Sight (now ordinals) ahead) × (ahead .start ≤ word .next) × (word .next ≤ ahead .stop) ⌝ }
+    ensures { λ r. ⌜ Onward (positionsOf base (now (ordinals .entry))) k (ahead .stop) (ahead .stop) word r ⌝ }
+{
+    let j = word.next;
+    if ahead.stop <= j {
+        return word;
+    }
+    let q = position16(ordinals[j], base);
+    if !in_word(q, k) {
+        return word;
+    }
+    let room = 64 - (q % 64) as usize;
+    with_run(word, q, least(room, ahead.stop - j))
+}
+
+// The word k with its rows up to the end of the run ahead.
+fn more_ordinals(ordinals: &[u16], word: Word, ahead: Outlook, base: u16, k: usize) -> Word
+    requires { ⌜ (Rising base (base + 4294967295) (now ordinals)) × (Sight (now ordinals) ahead) × (word .next ≤ ahead .stop) ⌝ }
+    ensures { λ r. ⌜ Onward (positionsOf base (now (ordinals .entry))) k (ahead .stop) (ahead .stop) word r ⌝ }
+{
+    let single = single_ordinals(ordinals, word, ahead, base, k);
+    if single.next < ahead.start {
+        return single;
+    }
+    run_ordinals(ordinals, single, ahead, base, k)
+}
+
+// The digits of the word k, whose first row is that of index i.
+fn word_ordinals(ordinals: &[u16], i: usize, seen: Outlook, base: u16, k: usize) -> Passed
+    requires { ⌜ (Rising base (base + 4294967295) (now ordinals)) × (Cut (positionsOf base (now ordinals)) k i) × (Sight (now ordinals) seen) × (i ≤ seen .stop) ⌝ }
+    ensures { λ r. ⌜ (Worded (positionsOf base (now (ordinals .entry))) k i (r .word)) × (Sight (now (ordinals .entry)) (r .ahead)) × (r .word .next ≤ r .ahead .stop) ⌝ }
+{
+    let mut ahead = seen;
+    let mut word = Word { bits: 0, next: i };
+    while word.next < ordinals.len() {
+        ahead = ahead_of16(ordinals, word.next, ahead);
+        word = more_ordinals(ordinals, word, ahead, base, k);
+        if word.next < ahead.stop {
+            return Passed {
+                word: word,
+                ahead: ahead,
+            };
+        }
+    }
+    Passed {
+        word: word,
+        ahead: ahead,
+    }
+}
+
 pub fn bitmap_ordinals(out: &mut [u8], at: usize, ordinals: &[u16], base: u16, span: u32) -> usize
     requires { ⌜ (Rising base (base + span) (now ordinals)) × (at + bitmapLength span ≤ length (now out)) ⌝ }
     ensures { λ r. ⌜ Written (bitmapLayout span (positionsOf base (now (ordinals .entry)))) at (now (out .entry)) (now (out .exit)) r ⌝ }
@@ -165,12 +267,15 @@ pub fn bitmap_ordinals(out: &mut [u8], at: usize, ordinals: &[u16], base: u16, s
     let words = words_of(span);
     let mut p = at + 2 * groups_of(words);
     let mut i = 0;
+    let mut ahead = Outlook { start: 0, stop: 0 };
     let mut k = 0;
     while k < words {
-        let word = word_ordinals(ordinals, i, base, k);
+        let passed = word_ordinals(ordinals, i, ahead, base, k);
+        let word = passed.word;
         put_before(out, at, k, i);
         fields::put64(out, p, word.bits);
         i = word.next;
+        ahead = passed.ahead;
         p += 8;
         k += 1;
     }

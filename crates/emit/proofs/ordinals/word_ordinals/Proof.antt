@@ -1,24 +1,22 @@
--- `emit::ordinals::word_ordinals` meets its contract: the front of the word, and digit after digit behind it.
+-- `emit::ordinals::word_ordinals` meets its contract: up to the end of one run after the other.
 -- Assumes nothing.
-use mathlib.Core.Path.{sym, _∙_}
-use Prim.Native.Nat.{_-_}
-use borrow.Author.Needs.{needs}
-use borrow.Author.Tests.{not-true, not-false}
+use Prim.Native.Nat.{_-_, _≤_}
+use native.Mathlib.Omega.{arith}
 use lib.ListN.{length}
 use Rattle.model.specs.Lists.{positionsOf}
 use Rattle.model.proofs.Positions.{length-positions}
-use Rattle.emit.specs.Words.{Wording}
-use Rattle.emit.proofs.Passing.{positions-below, row-stands}
-use Rattle.emit.proofs.Loops.{row-at}
-use Rattle.emit.proofs.Wording.{wording-next, wording-stop, wording-end}
+use Rattle.emit.specs.Words.{Wording, Sight}
+use Rattle.emit.proofs.Passing.{positions-below}
+use Rattle.emit.proofs.Looking.{spaced, onward-end}
+use Rattle.emit.proofs.Wording.{wording-start, wording-end}
 use Rattle.emit.proofs.ordinals.word_ordinals.Statement.{statement}
 use Rattle.emit.proofs.ordinals.word_ordinals.Tie as tie
 
 abbrev Inv-loop : tie.InvT-loop
-Inv-loop ordinals i base k bits₀ j₀ bits j = Wording (positionsOf base ordinals) k i (record { bits = bits; next = j })
+Inv-loop ordinals i base k ahead₀ word₀ ahead word = (Wording (positionsOf base ordinals) k i word) × (Sight ordinals ahead) × (word .next ≤ ahead .stop)
 
 abbrev μ-loop : tie.MeasureT-loop
-μ-loop ordinals i base k bits₀ j₀ bits j = length ordinals - j
+μ-loop ordinals i base k ahead₀ word₀ ahead word = length ordinals - word .next
 
 pub word-ordinals-spec : {M : Type 1} → statement M
 word-ordinals-spec =
@@ -26,21 +24,18 @@ word-ordinals-spec =
     (tie.spec
     Inv-loop
     μ-loop
-    (λ c κs. (c .before .pre .0, c .before .pre .1))
-    (λ c. c .front-ordinals .ensures)
-    (λ c. search needs)
-    (λ c. search needs)
-    (λ c κs. row-at (c .before .before .before .before .before .pre .0) _ (c .before .loop-test .taken) .0)
-    (λ c κs. search needs)
+    (λ c. let p = c .before .pre in (wording-start (p .1), p .2, p .3))
+    (λ c κs. let v = c .before .before .loop .inv in (spaced (c .before .before .before .before .pre .0), v .1, v .2, c .if1 .taken))
+    (λ c κs. let t = c .ahead-of16 .ensures in (c .before .before .before .before .before .pre .0, t .0, omega (arith, t .1)))
     (λ c.
-    let k = c .before .before .before .before in
-    let p = k .before .before .before .before .pre in
-    wording-stop (p .1) (k .before .loop .inv) (positions-below _ _ (p .0)) (row-stands _ _ (k .loop-test .taken) (c .before .before .position16 .ensures)) (sym (c .before .in-word .ensures) ∙ not-true _ (c .if1 .taken)))
-    (λ c κs. search needs)
-    (λ c. search needs)
-    (λ c. search needs)
+    let k = c .before .before .before in
+    let t = k .before .ahead-of16 .ensures in
+    let v = k .before .before .before .before .loop .inv in
+    let p = k .before .before .before .before .before .before .pre in
+    (onward-end (p .1) (positions-below _ _ (p .0)) (v .0) (k .more-ordinals .ensures) (c .if2 .taken) (rw length-positions (t .0 .inside)), t .0, k .more-ordinals .ensures .within))
+    (λ c. let t = c .before .before .before .before .ahead-of16 .ensures in omega arith)
     (λ c.
-    let k = c .before .before .before .before .before in
-    let p = k .before .before .before .before .pre in
-    wording-next (p .1) (k .before .loop .inv) (positions-below _ _ (p .0)) (row-stands _ _ (k .loop-test .taken) (c .before .before .before .position16 .ensures)) (sym (c .before .before .in-word .ensures) ∙ not-false _ (c .before .if1 .left)) (c .with-digit .ensures))
-    (λ c. wording-end (c .before .before .before .before .pre .1) (c .before .loop .inv) (rw length-positions (c .loop-test .left))))
+    let k = c .before .before .before in
+    let v = k .before .before .before .before .loop .inv in
+    (k .more-ordinals .ensures .kept _ (k .before .before .before .before .before .before .pre .1) (v .0), k .before .ahead-of16 .ensures .0, k .more-ordinals .ensures .within))
+    (λ c. let v = c .before .before .loop .inv in (wording-end (c .before .before .before .before .pre .1) (v .0) (rw length-positions (c .if1 .left)), v .1, v .2)))
