@@ -121,7 +121,7 @@ fn reaches(rows: &[u64], from: usize, at: usize, step: usize) -> bool
 }
 
 // The index of the first row of the run that the row of index at stands in, or from where the run begins before that. The steps are
-// for less than 32 rows, as between two blocks of a look ahead.
+// for fewer than 32 rows, as between two blocks of a look ahead.
 fn run_first(rows: &[u64], from: usize, at: usize) -> usize
     requires { ⌜ (Spaced (now rows)) × (from ≤ at) × (at < length (now rows)) ⌝ }
     ensures { λ r. ⌜ Unbroken (now (rows .entry)) r at ⌝ }
@@ -165,7 +165,7 @@ fn look(rows: &[u64], from: usize) -> Outlook
 }
 
 // What is known of the rows ahead of the one of index next: as before while it is in a run or before one. If no run is in sight, the
-// next look is due when less than 64 rows are left of those that were looked at: a word has no more.
+// next look is due when fewer than 64 rows are left of those that were looked at: a word has no more.
 fn ahead_of(rows: &[u64], next: usize, ahead: Outlook) -> Outlook
     requires { ⌜ (Spaced (now rows)) × (Sight (now rows) ahead) × (next ≤ ahead .stop) × (next < length (now rows)) ⌝ }
     ensures { λ r. ⌜ (Sight (now (rows .entry)) r) × (next < r .stop) ⌝ }
