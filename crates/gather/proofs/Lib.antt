@@ -11,3 +11,6 @@ pub mod Elsewhere
 pub mod Taken
 pub mod Promised
 pub mod Walk
+pub mod Passed
+pub mod Adds
+pub mod Lends
