@@ -33,7 +33,7 @@ upper-spec =
     (λ c. omega arith)
     (λ c. omega (arith, room c))
     (λ c. omega (arith, room c))
-    (λ c κs. room c)
+    (λ c κs. omega (arith, room c))
     (λ c κs. tt)
     (λ c. omega arith)
     (λ c. omega (arith, once (c .before .before .before .loop .len / 2 + 1) (c .reached .ensures .1)))

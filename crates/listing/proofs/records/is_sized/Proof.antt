@@ -1,5 +1,6 @@
 -- `listing::records::is_sized` meets its contract: the two bounds are the two tests.
 -- Assumes nothing.
+use native.Mathlib.Omega.{arith}
 use borrow.Author.Tests.{le-leb, lt-leb}
 use Rattle.listing.specs.Records.{sized}
 use Rattle.model.specs.Tests.{both}
@@ -11,5 +12,5 @@ unfolding sized both
 is-sized-spec =
     tie.close
     (tie.spec
-    (λ c. rw (lt-leb _ _ (c .if1 .taken)))
-    (λ c. rw (le-leb _ _ (c .if1 .left))))
+    (λ c. rw (lt-leb 5 (c .before .args .n) (omega arith)))
+    (λ c. rw (le-leb 5 (c .before .args .n) (omega arith))))

@@ -1,5 +1,6 @@
 -- `listing::records::next_after` meets its contract: each way out is one case of the definition.
 -- Assumes nothing.
+use native.Mathlib.Omega.{arith}
 use borrow.Author.Needs.{needs}
 use borrow.Author.Tests.{lt-ltb, le-ltb}
 use Rattle.listing.specs.Records.{nextAfter}
@@ -14,6 +15,6 @@ next-after-spec =
     tie.close
     (tie.spec
     (λ c κs. search needs)
-    (λ c. rw (sym (c .before .before .is-sized .ensures) ∙ c .before .if1 .taken, lt-ltb _ _ (c .if2 .taken)))
-    (λ c. rw (sym (c .before .before .is-sized .ensures) ∙ c .before .if1 .taken, le-ltb _ _ (c .if2 .left)))
+    (λ c. let a = c .before .before .before .args in rw (sym (c .before .before .is-sized .ensures) ∙ c .before .if1 .taken, lt-ltb (a .have) (a .n) (omega arith)))
+    (λ c. let a = c .before .before .before .args in rw (sym (c .before .before .is-sized .ensures) ∙ c .before .if1 .taken, le-ltb (a .have) (a .n) (omega arith)))
     (λ c. rw (sym (c .before .is-sized .ensures) ∙ c .if1 .left)))
