@@ -8,24 +8,13 @@
 SECONDS = 60
 SEED = 1
 
-# A part of dist/ is built once its crate is listed in crates.txt.
-HAS = $(shell grep -qE '^$(1):' crates.txt && echo yes)
-
 all:
 	rt check
 	@mkdir -p dist
-ifeq ($(call HAS,pelisafu),yes)
 	rt staticlib pelisafu
 	cp target/staticlib/libpelisafu.a include/pelisafu.h dist/
-else
-	@echo "dist/libpelisafu.a: not yet, the crate pelisafu is not written"
-endif
-ifeq ($(call HAS,lister),yes)
 	cp target/bin/lister dist/lister
 	dist/lister < tests/listing/sample.bin
-else
-	@echo "dist/lister: not yet, the crate lister is not written"
-endif
 
 test:
 	@tests/run
