@@ -13,8 +13,8 @@
  *    1  end before start, span 0, or span above 4,294,967,295
  *    2  no rows, or more than 65,535
  *    3  rows that do not rise, or are outside of the coverage; in gathering: not above the last row
- *    4  seed ends that are not rising, do not end at the row count, or have a seed whose last row is more than 65,534
- *       above its first
+ *    4  seed ends that begin with 0, do not rise or do not end at the row count, or a seed whose last row is more than
+ *       65,534 above its first
  *    5  a workspace of less than 24 words for each seed
  *    6  a body longer than the limit or than 65,535 bytes
  *    7  an output that is too short

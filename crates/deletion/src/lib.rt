@@ -241,7 +241,7 @@ pub fn contains(rows: u16, limit: usize, section: Section, body: &[u8], ordinal:
     Contained::No
 }
 
-// The deleted ordinals from the k-th on, as many as fit or remain.
+// The deleted ordinals from the `from`-th on, as many as fit or remain.
 pub fn walk_deletions(
     rows: u16,
     limit: usize,

@@ -82,7 +82,7 @@ fn decide(w: &mut [u32], n: usize, span: u32) -> Decision
     }
 }
 
-// Test 6, then test 7: the number of the refusal, or 0.
+// Test 6: its number, or 0.
 fn six(bytes: u64, limit: usize) -> u8
     ensures { λ r. ⌜ r ≡ pick (both (leb bytes limit) (leb bytes 65535)) 0 6 ⌝ }
 {
@@ -92,6 +92,7 @@ fn six(bytes: u64, limit: usize) -> u8
     if 65535 < bytes { 6 } else { 0 }
 }
 
+// Test 7.
 fn seven(bytes: u64, room: usize) -> u8
     ensures { λ r. ⌜ r ≡ pick (leb bytes room) 0 7 ⌝ }
 {
@@ -105,6 +106,7 @@ fn first_of(a: u8, b: u8) -> u8
     if a == 0 { b } else { a }
 }
 
+// Test 6, then test 7: the number of the refusal, or 0.
 fn late(bytes: u64, limit: usize, room: usize) -> u8
     ensures { λ r. ⌜ r ≡ lateNumber bytes limit room ⌝ }
 {

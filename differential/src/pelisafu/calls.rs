@@ -164,8 +164,8 @@ pub(crate) struct Body<'a> {
     pub(crate) bytes: &'a [u8],
 }
 
-// SAFETY, for every call below: a slice gives a pointer that is not null, aligned and good for its length, and a `&mut`
-// slice overlaps no other one. The library asks nothing more.
+// SAFETY, for every call below: a slice gives a pointer that is aligned and good for its length, or null where it is empty,
+// and a `&mut` slice overlaps no other one. The library asks nothing more.
 impl Body<'_> {
     #[inline]
     pub(crate) fn validate(self) -> Told<u64> {

@@ -46,8 +46,7 @@ pub(crate) struct Means<'a> {
     pub(crate) out: &'a mut [u8],
 }
 
-// SAFETY, for both calls: a slice gives a pointer that is not null, aligned and good for its length, and a `&mut` slice
-// overlaps no other one. The library asks nothing more.
+// SAFETY, for both calls: as in `calls`.
 #[inline]
 pub(crate) fn plan_rows(
     (start, end): (u64, u64),

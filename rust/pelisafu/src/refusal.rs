@@ -27,7 +27,8 @@ pub enum Refusal {
     RowCount = 2,
     /// 3: the rows do not rise strictly or leave the coverage; in gathering, a row is not above the last one.
     Order = 3,
-    /// 4: the seed ends do not rise from 1 or more up to the row count, or a seed is longer than 65,535 rows.
+    /// 4: the seed ends do not rise from 1 or more up to the row count, or a seed's last row is more
+    /// than 65,534 above its first.
     SeedEnds = 4,
     /// 5: the workspace is below 24 words for each seed. A [`Planner`](crate::Planner) has enough.
     Workspace = 5,
@@ -91,7 +92,7 @@ impl Refusal {
             Self::RowCount => "there are no rows, or more than 65,535",
             Self::Order => "the rows do not rise strictly, or one is outside the coverage",
             Self::SeedEnds => {
-                "the seed ends do not fit the rows, or a seed is longer than 65,535 rows"
+                "the seed ends do not fit the rows, or a seed is wider than 65,535 row numbers"
             }
             Self::Workspace => "the workspace has less than 24 words for each seed",
             Self::Limit => "the shortest body is longer than the limit, or than 65,535 bytes",
