@@ -99,7 +99,7 @@ typedef struct {
 
 /* ---- planning: rows to the shortest body */
 
-/* Plans rows, strictly rising in [start, end), into the front of out: the shortest body that document 01's rules give.
+/* Plans rows, strictly rising in [start, end), into the front of out: the shortest body that the rules of planning give.
  * Its span is end - start. seeds has the ends of the seeds, as gathering leaves them; without any, rows are taken in
  * 4,096-windows of absolute row number. work is the workspace, of 24 words or more for each seed. Refuses: 1, 2, 3, 4, 5, 6, 7,
  * in that order. Refusals 1 to 5 leave the workspace as it was; 6, 7 and a plan leave its first 24 words for each seed
