@@ -105,52 +105,39 @@ fn check_numbers() {
 
 // Twelve rows in one segment: 100000 + 100 i.
 fn twelve() -> [u8; 44] {
-    [
-        12,
-        0,
-        1,
-        0,
-        160,
-        134,
-        1,
-        0,
-        77,
-        4,
-        12,
-        0,
-        0,
-        0,
-        20,
-        0,
-        24,
-        0,
-        3,
-        0,
-        0,
-        0,
-        100,
-        0,
-        200,
-        0,
-        44,
-        1,
-        144,
-        1,
-        244,
-        1,
-        88,
-        2,
-        188,
-        2,
-        32,
-        3,
-        132,
-        3,
-        232,
-        3,
-        76,
-        4,
-    ]
+    let mut body = [0u8; 44];
+    body[0] = 12;
+    body[2] = 1;
+    body[4] = 160;
+    body[5] = 134;
+    body[6] = 1;
+    body[8] = 77;
+    body[9] = 4;
+    body[10] = 12;
+    body[14] = 20;
+    body[16] = 24;
+    body[18] = 3;
+    body[22] = 100;
+    body[24] = 200;
+    body[26] = 44;
+    body[27] = 1;
+    body[28] = 144;
+    body[29] = 1;
+    body[30] = 244;
+    body[31] = 1;
+    body[32] = 88;
+    body[33] = 2;
+    body[34] = 188;
+    body[35] = 2;
+    body[36] = 32;
+    body[37] = 3;
+    body[38] = 132;
+    body[39] = 3;
+    body[40] = 232;
+    body[41] = 3;
+    body[42] = 76;
+    body[43] = 4;
+    body
 }
 
 fn rank_twelve(position: u32) {
@@ -267,5 +254,5 @@ fn main() {
     plans::all();
     plans::edges();
     plans::seeds();
-    plans::struck();
+    plans::ordinals();
 }
