@@ -10,8 +10,8 @@ const MOST: usize = 65_535;
 /// Cuts rows into seeds as they arrive, singly or by pages, for a [`Planner`](crate::Planner).
 ///
 /// A page whose last row is less than 65,535 above its first is one seed; another page is taken row by row. A single row joins
-/// the last seed where both lie in the same window of 4,096 row numbers. Only the seeds' ends are kept, in a table that
-/// grows as needed; the rows themselves stay with the caller.
+/// the last seed where it lies in the same window of 4,096 row numbers as that seed's first row. Only the seeds' ends are
+/// kept, in a table that grows as needed; the rows themselves stay with the caller.
 ///
 /// ```
 /// use pelisafu::{Gatherer, Planner};
