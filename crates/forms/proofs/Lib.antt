@@ -3,4 +3,3 @@ pub mod Sized
 pub mod Obeys
 pub mod Laws
 pub mod Laid
-pub mod Bytes

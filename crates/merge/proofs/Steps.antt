@@ -50,9 +50,6 @@ module _ (n q l m r : ℕ) (w w₁ : List ℕ) (rd : Ready n (records n w) l m r
   abbrev t₁ : List ℕ
   t₁ = linked l m r s (records n w)
 
-  cu : Cuts n l m r
-  cu = rd .cuts
-
   long : r * 8 + 8 ≤ length (records n w)
   long = omega (arith, records-length n w (omega arith), rd .cuts .rn)
 

@@ -5,9 +5,9 @@ use mathlib.Core.Bool.{Bool, true, false}
 use mathlib.Core.Logic.{⊎-elim}
 use mathlib.Core.List.{List, [], _∷_, _++_}
 use Prim.Native.Nat.{ℕ, zero, suc, _+_, _-_, _<_, _≤_}
-use native.Mathlib.Nat.{zero-add, suc-add, add-suc, add-assoc}
+use native.Mathlib.Nat.{zero-add, suc-add, add-suc}
 use native.Mathlib.Omega.{arith}
-use lib.ListN.{length, getD, take, drop}
+use lib.ListN.{length, getD, drop}
 use lib.Seq.{getD-append-add}
 use Rattle.model.specs.Tests.{pick}
 use Rattle.model.specs.Lists.{Rising, none, more, below, has, placeOf, shift}
@@ -73,26 +73,10 @@ unfolding shift
 shift-rising b none = none
 shift-rising {a} {c} b (more {x = x} l h r) = more {a = b + a} {b = b + c} {x = b + x} (omega arith) (omega arith) (rw (add-suc b x) at (shift-rising b r))
 
-pub shift-append : (b : ℕ) (xs ys : List ℕ) → shift b (xs ++ ys) ≡ shift b xs ++ shift b ys
-unfolding shift
-shift-append b [] ys = refl
-shift-append b (x ∷ xs) ys = rw (shift-append b xs ys)
-
 pub shift-zero : (xs : List ℕ) → shift 0 xs ≡ xs
 unfolding shift
 shift-zero [] = refl
 shift-zero (x ∷ xs) = rw (shift-zero xs, zero-add)
-
-pub shift-shift : (b c : ℕ) (xs : List ℕ) → shift b (shift c xs) ≡ shift (b + c) xs
-unfolding shift
-shift-shift b c [] = refl
-shift-shift b c (x ∷ xs) = rw (shift-shift b c xs, add-assoc)
-
-pub shift-take : (b n : ℕ) (xs : List ℕ) → shift b (take n xs) ≡ take n (shift b xs)
-unfolding shift
-shift-take b zero xs = refl
-shift-take b (suc n) [] = refl
-shift-take b (suc n) (x ∷ xs) = rw (shift-take b n xs)
 
 pub shift-drop : (b n : ℕ) (xs : List ℕ) → shift b (drop n xs) ≡ drop n (shift b xs)
 unfolding shift

@@ -2,7 +2,7 @@
 -- Assumes nothing.
 use mathlib.Core.Path.{_≡_, refl, sym, ap, _∙_}
 use mathlib.Core.Bool.{Bool}
-use mathlib.Core.List.{List, [], _∷_, _++_}
+use mathlib.Core.List.{List, [], _∷_}
 use Prim.Native.Nat.{ℕ, zero, suc, _+_, _-_, _<_, _≤_}
 use native.Mathlib.Nat.{sub-zero}
 use native.Mathlib.Omega.{arith}
@@ -23,11 +23,6 @@ unfolding positionsOf
 getD-positions start [] k h = absurd (omega arith)
 getD-positions start (r ∷ rs) zero h = refl
 getD-positions start (r ∷ rs) (suc k) h = getD-positions start rs k (omega arith)
-
-pub positions-append : (start : ℕ) (xs ys : List ℕ) → positionsOf start (xs ++ ys) ≡ positionsOf start xs ++ positionsOf start ys
-unfolding positionsOf
-positions-append start [] ys = refl
-positions-append start (x ∷ xs) ys = rw (positions-append start xs ys)
 
 pub positions-take : (start n : ℕ) (xs : List ℕ) → positionsOf start (take n xs) ≡ take n (positionsOf start xs)
 unfolding positionsOf

@@ -5,12 +5,12 @@ use mathlib.Core.Bool.{true}
 use mathlib.Core.Logic.{⊎-elim}
 use mathlib.Core.List.{List, _++_}
 use Prim.Native.Nat.{ℕ, zero, suc, _+_, _-_, _<_, _≤_, min}
-use native.Mathlib.Nat.{zero-add, add-zero, suc-add, add-suc}
+use native.Mathlib.Nat.{zero-add, add-zero, suc-add, add-suc, sub-zero}
 use native.Mathlib.Omega.{arith}
 use lib.Dec.{ltb}
 use lib.ListN.{length, getD, drop}
 use borrow.Author.Tests.{lt-ltb, le-ltb}
-use Rattle.model.specs.Lists.{Rising, none, more, below, has, range, shift}
+use Rattle.model.specs.Lists.{Rising, none, more, below, has, range}
 use Rattle.model.proofs.Tests.{order}
 use Rattle.model.proofs.Rising.{rising-room}
 use Rattle.model.proofs.Standing.{below-under, below-past, below-none, has-outside, has-at}
@@ -36,14 +36,9 @@ unfolding range
 range-append a zero n = rw (zero-add, add-zero)
 range-append a (suc m) n = rw (suc-add m n, range-append (suc a) m n, suc-add, add-suc)
 
-pub range-shift : (b a n : ℕ) → shift b (range a n) ≡ range (b + a) n
-unfolding range shift
-range-shift b a zero = refl
-range-shift b a (suc n) = rw (range-shift b (suc a) n, add-suc)
-
 pub range-drop : (a n k : ℕ) → drop k (range a n) ≡ range (a + k) (n - k)
 unfolding range
-range-drop a n zero = rw (add-zero, native.Mathlib.Nat.sub-zero)
+range-drop a n zero = rw (add-zero, sub-zero)
 range-drop a zero (suc k) = let e : 0 - suc k ≡ 0 = omega arith in rw e
 range-drop a (suc n) (suc k) =
     let e : suc n - suc k ≡ n - k = omega arith in

@@ -5,7 +5,7 @@ use mathlib.Core.Bool.{Bool, true, false, true≢false, false≢true}
 use mathlib.Core.Logic.{_⊎_, ⊎-elim, inl, inr}
 use mathlib.Core.List.{List, [], _∷_, _++_, append-assoc, append-nil}
 use Prim.Native.Nat.{ℕ, zero, suc, _+_, _<_, _≤_}
-use native.Mathlib.Nat.{eq-or-lt-of-le, le-of-suc-le-suc}
+use native.Mathlib.Nat.{add-zero, add-suc, eq-or-lt-of-le, le-of-suc-le-suc}
 use native.Mathlib.Numerals.{add-one}
 use native.Mathlib.Omega.{arith}
 use lib.Dec.{ltb, eqb}
@@ -116,12 +116,6 @@ module _ (t : ℕ → Bool) where
   all-from zero h = refl
   all-from (suc n) h = both-true _ _ (all-from n (λ i l. h i (omega arith))) (h n (omega arith))
 
--- two tests that agree below n
-pub all-same : (t u : ℕ → Bool) (n : ℕ) → ((i : ℕ) → i < n → t i ≡ u i) → all t n ≡ all u n
-unfolding all
-all-same t u zero h = refl
-all-same t u (suc n) h = rw (all-same t u n (λ i l. h i (omega arith)), h n (omega arith))
-
 -- ---- a tabulated list
 
 module _ {A : Type 0} (f : ℕ → A) where
@@ -158,8 +152,8 @@ module _ {A : Type 0} (g : ℕ → List A) where
   -- the first i of n lists stand in front
   pub flat-front : (i m : ℕ) → flat g (i + m) ≡ flat g i ++ flat (λ j. g (i + j)) m
   unfolding flat
-  flat-front i zero = rw (native.Mathlib.Nat.add-zero i) (sym (append-nil (flat g i)))
-  flat-front i (suc m) = rw (native.Mathlib.Nat.add-suc i m, flat-front i m, append-assoc)
+  flat-front i zero = rw (add-zero i) (sym (append-nil (flat g i)))
+  flat-front i (suc m) = rw (add-suc i m, flat-front i m, append-assoc)
 
 pub flat-same : {A : Type 0} (g h : ℕ → List A) (n : ℕ) → ((i : ℕ) → i < n → g i ≡ h i) → flat g n ≡ flat h n
 unfolding flat

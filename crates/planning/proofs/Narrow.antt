@@ -176,21 +176,6 @@ pub parts-some : {xs : List ℕ} {segs : List (List ℕ)} → Parts xs segs → 
 parts-some (nothing z) h = absurd (omega (arith, ap length z))
 parts-some (front e some slim k) h = omega arith
 
--- rows that rise do so in each segment
-rising-front : {a b : ℕ} (xs ys : List ℕ) → Rising a b (xs ++ ys) → Rising a b xs
-rising-front [] ys r = none
-rising-front (x ∷ xs) ys (more p q r) = more p q (rising-front xs ys r)
-
-rising-back : {a b : ℕ} (xs ys : List ℕ) → Rising a b (xs ++ ys) → Rising a b ys
-rising-back [] ys r = r
-rising-back {b = b} (x ∷ xs) ys (more p q r) = rising-wider (omega arith) (le-refl b) (rising-back xs ys r)
-
-pub parts-rising : {a b : ℕ} {xs : List ℕ} {segs : List (List ℕ)} → Parts xs segs → Rising a b xs → (i : ℕ) → i < length segs → Rising a b (segmentAt segs i)
-unfolding segmentAt
-parts-rising (nothing z) r i h = absurd (omega arith)
-parts-rising (front {seg = seg} {rest = rest} e some slim k) r zero h = rising-front seg rest (rw e at r)
-parts-rising (front {seg = seg} {rest = rest} e some slim k) r (suc i) h = parts-rising k (rising-back seg rest (rw e at r)) i (omega arith)
-
 -- ---- the segments of the plan
 
 module _ (xs ends : List ℕ) (k : Narrow xs ends) where

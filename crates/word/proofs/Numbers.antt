@@ -3,7 +3,7 @@
 -- Assumes nothing.
 use mathlib.Core.Path.{_≡_, refl, sym, ap, _∙_, subst}
 use mathlib.Core.Logic.{⊎-elim}
-use mathlib.Core.List.{List, [], _∷_, _++_}
+use mathlib.Core.List.{List, [], _∷_}
 use Prim.Native.Nat.{ℕ, zero, suc, _+_, _-_, _*_, _/_, _%_, _^_, _<_, _≤_}
 use native.Mathlib.Nat.{pow-suc, mod-one, eq-or-lt-of-le, le-refl, one-mul, div-lt-iff-lt-mul, div-eq-of-lt}
 use native.Mathlib.Omega.{arith}
@@ -84,12 +84,6 @@ num-lt (suc k) a l r =
     (λ l s. let z : a - a ≡ 0 = omega arith in rw (z, pow-suc 2 k) (omega (arith, num-half s, num-lt k (suc a) l s)))
     (λ l s. rw (pow-suc 2 k) (omega (arith, num-half s, num-lt k (suc a) l s)))
     l r
-
--- one more place at the end
-pub num-snoc : (a : ℕ) (l : List ℕ) (p : ℕ) → numFrom a (l ++ (p ∷ [])) ≡ numFrom a l + 2 ^ (p - a)
-unfolding numFrom
-num-snoc a [] p = omega arith
-num-snoc a (x ∷ l) p = omega (arith, num-snoc a l p)
 
 -- ---- digits above the k lowest
 
