@@ -5,15 +5,12 @@ use borrow.Author.Needs.{needs}
 use Rattle.lister.proofs.stops.Statement.{statement}
 use Rattle.lister.proofs.stops.Tie as tie
 
-enum-told : tie.Need-enum-told
-enum-told c = search needs
-
 pub stops-spec : {M : Type 1} → statement M
 unfolding stopsOf
 stops-spec =
     tie.close
     (tie.spec
-    enum-told
+    (λ c. search needs)
     (λ c. search needs)
     (λ c. search needs)
     (λ c. rw (c .enum-told .given .1))

@@ -15,9 +15,6 @@ record-fits : (c : tie.After-known-told) → Whole (c .before .before .before .b
 unfolding wholeOf
 record-fits c = is-whole (Record (c .before .n .given .0 .0)) (sym (c .before .n .given .1) ∙ c .before .before .before .next-in .ensures)
 
-enum-told : tie.Need-enum-told
-enum-told c = search needs
-
 pub whole-spec : {M : Type 1} → statement M
 unfolding wholeOf
 whole-spec =
@@ -26,7 +23,7 @@ whole-spec =
     (λ c κs. search needs)
     (λ c. search needs)
     (λ c. omega (arith, record-fits c))
-    enum-told
+    (λ c. search needs)
     (λ c. search needs)
     (λ c. record-fits c)
     (λ c. is-whole Broken (sym (c .enum-told .given .1) ∙ c .before .before .next-in .ensures))

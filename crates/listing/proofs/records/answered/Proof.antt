@@ -9,9 +9,6 @@ use Rattle.listing.specs.Records.{answerLine}
 use Rattle.listing.proofs.records.answered.Statement.{statement}
 use Rattle.listing.proofs.records.answered.Tie as tie
 
-enum-told : tie.Need-enum-told
-enum-told c = search needs
-
 pub answered-spec : {M : Type 1} → statement M
 unfolding answerLine checkedOf pick
 answered-spec =
@@ -19,6 +16,6 @@ answered-spec =
     (tie.spec
     (λ c. search needs)
     (λ c κs. search needs)
-    enum-told
+    (λ c. search needs)
     (λ c. rw (c .before .before .checked .given .1) (ap Listed (c .figures-of .ensures)))
     (λ c. rw (c .enum-told .given .1)))

@@ -7,9 +7,6 @@ use borrow.Author.Needs.{needs}
 use Rattle.listing.proofs.text.put_line.Statement.{statement}
 use Rattle.listing.proofs.text.put_line.Tie as tie
 
-enum-told : tie.Need-enum-told
-enum-told c = search needs
-
 pub put-line-spec : {M : Type 1} → statement M
 unfolding textOf ascii
 put-line-spec =
@@ -17,7 +14,7 @@ put-line-spec =
     (tie.spec
     (λ c. search needs)
     (λ c κs. search needs)
-    enum-told
+    (λ c. search needs)
     (λ c κs. search needs)
     (λ c. search needs)
     (λ c. search needs)
