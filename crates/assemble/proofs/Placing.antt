@@ -5,40 +5,40 @@ use mathlib.Core.List.{List, [], _++_}
 use Prim.Native.Nat.{ℕ, suc, _+_, _-_, _<_, _≤_}
 use native.Mathlib.Numerals.{add-one}
 use native.Mathlib.Omega.{arith}
-use lib.ListN.{length, getD, take, drop, length-append, length-drop, take-append-drop}
+use lib.ListN.{length, getD, take, drop, length-append, length-drop}
 use lib.Seq.{drop-drop, getD-drop, take-at, drop-at}
 use Rattle.fields.specs.Le.{digits}
 use Rattle.model.specs.Tests.{flat, total}
 use Rattle.model.proofs.Tests.{flat-length-step}
 use Rattle.model.proofs.Pieces.{flat-length-le}
 use Rattle.model.proofs.Sums.{flat-total}
-use Rattle.model.proofs.Rising.{rising-wider, rising-drop}
+use Rattle.model.proofs.Rising.{rising-take, rising-drop, rising-ends}
 use Rattle.model.specs.Lists.{Rising, positionsOf}
 use Rattle.cost.specs.declared.Stats.{Stats}
 use Rattle.cost.specs.declared.Form.{Form}
 use Rattle.cost.specs.Statistics.{statsOf, spanOf}
 use Rattle.cost.specs.Rows.{Covered}
-use Rattle.cost.specs.Forms.{localForm, itemsForm, bitmapForm, denseForm}
-use Rattle.cost.proofs.Chosen.{Local, dense, list, runs, missing, bitmap, local-chosen}
+use Rattle.cost.specs.Forms.{localForm}
 use Rattle.model.proofs.Positions.{length-positions, positions-take, positions-drop}
 use Rattle.cost.proofs.Positions.{stats-rows, covered-sound}
 use Rattle.single.specs.Layout.{firstOf, extentOf}
 use Rattle.merge.specs.Tables.{next, statAt}
 use Rattle.directory.specs.Directory.{directorySize}
 use Rattle.directory.specs.Layout.{directoryLayout}
-use Rattle.directory.proofs.LaidOut.{length-layout}
+use Rattle.directory.proofs.LaidOut.{entryFor}
 use Rattle.forms.specs.Forms.{localLayout}
 use Rattle.directory.specs.declared.Segment.{Segment}
 use Rattle.emit.specs.Written.{Written}
 use Rattle.encode.specs.Headers.{entryBytes}
 use Rattle.encode.specs.Segments.{Placed}
-use Rattle.encode.proofs.Wholes.{rising-ends, ends-in, trimmed-extent, trimmed-own}
-use Rattle.encode.proofs.Directories.{Laying, entryFor, laying-start, laying-length, laying-next, laying-end}
+use Rattle.encode.proofs.Wholes.{ends-in, trimmed-extent, trimmed-own}
+use Rattle.encode.proofs.Directories.{Laying, laying-start, laying-length, laying-next, laying-end}
 use Rattle.planning.specs.Bodies.{segmentAt, tagOf, payloadOf, entriesOf, payloadAt, segmentedLayout}
 use Rattle.planning.specs.Held.{Held}
+use Rattle.planning.proofs.Parts.{tag-small}
+use Rattle.planning.proofs.Segmented.{layout-length}
 use Rattle.planning.proofs.Holding.{held-same}
 use Rattle.assemble.proofs.Records.{Ahead, ahead, behind}
-use Rattle.assemble.proofs.Summing.{parted}
 use Rattle.assemble.specs.Emission.{payloadBy, entryBy, Small, Piece, Emittable, Emitted}
 
 -- ---- one segment, by its statistics
@@ -70,17 +70,9 @@ placed-same p q w = rw (← p, ← q) w
 
 -- ---- rows in a coverage, with the statistics of their positions
 
-local-tag : {s : Stats} {f : Form} → Local s f → f .tag < 256
-unfolding itemsForm bitmapForm denseForm
-local-tag (dense e) = omega arith
-local-tag list = omega arith
-local-tag runs = omega arith
-local-tag missing = omega arith
-local-tag bitmap = omega arith
-
 -- the entry of a segment
-abbrev entryOf : List ℕ → ℕ → ℕ → ℕ → Segment
-entryOf rows ordinal offset size = record { start = firstOf rows; span = extentOf rows; count = length rows; ordinal = ordinal; offset = offset; length = size; tag = tagOf rows }
+abbrev ownEntry : List ℕ → ℕ → ℕ → ℕ → Segment
+ownEntry rows ordinal offset size = record { start = firstOf rows; span = extentOf rows; count = length rows; ordinal = ordinal; offset = offset; length = size; tag = tagOf rows }
 
 module _ (start : ℕ) (rows : List ℕ) (k : Covered start rows) where
   abbrev P : List ℕ
@@ -95,7 +87,7 @@ module _ (start : ℕ) (rows : List ℕ) (k : Covered start rows) where
   unfolding payloadBy payloadOf tagOf
   payload-own = rw (trimmed-own start rows k, trimmed-extent start rows k, span-own)
 
-  entry-own : (ordinal offset size : ℕ) → entryBy (statsOf P) (localForm (statsOf P) .tag) ordinal offset size ≡ entryOf P ordinal offset size
+  entry-own : (ordinal offset size : ℕ) → entryBy (statsOf P) (localForm (statsOf P) .tag) ordinal offset size ≡ ownEntry P ordinal offset size
   unfolding entryBy statsOf firstOf tagOf
   entry-own ordinal offset size = rw (trimmed-extent start rows k, span-own)
 
@@ -107,7 +99,7 @@ module _ (start : ℕ) (rows : List ℕ) (k : Covered start rows) where
         sound = sound;
         some = k .some;
         count = length-positions start rows;
-        rising = rising-ends (k .rising) (k .some) span-own;
+        rising = rising-ends (k .rising) span-own;
         small = rw payload-own (record { ordered = sound .ordered; short = short; count = omega (arith, sound .inside); ordinals = o; offsets = omega arith; sizes = omega arith });
         fits = rw payload-own fits;
         index = index;
@@ -123,10 +115,6 @@ pub record Placing (n : ℕ) (t : List ℕ) (start : ℕ) (rows : List ℕ) (m :
   pub most : a ≤ length rows
   pub sum : total (entriesOf (given .kept .segs) .count) i ≡ a
   pub laying : Laying (entriesOf (given .kept .segs)) (payloadAt (given .kept .segs)) m i before at out
-
-layout-length : (segs : List (List ℕ)) → length (segmentedLayout segs) ≡ directorySize (length segs) + length (flat (payloadAt segs) (length segs))
-unfolding segmentedLayout
-layout-length segs = length-append (directoryLayout (entriesOf segs) (length segs)) (flat (payloadAt segs) (length segs)) ∙ rw (length-layout (entriesOf segs) (length segs))
 
 -- a directory and its room
 pub directory-room : {n : ℕ} {t : List ℕ} {start : ℕ} {rows : List ℕ} {m room : ℕ} → Emittable n t start rows m room → (directorySize m ≤ 65535) × (directorySize m ≤ room)
@@ -174,11 +162,10 @@ module _ {n : ℕ} {t : List ℕ} {start : ℕ} {rows : List ℕ} {m : ℕ} {bef
       rest-own = rw (← drop-drop size a rows) (positions-drop start size (drop a rows) ∙ ap (λ (xs : List ℕ). drop size xs) (h .cut) ∙ drop-at (h .seg) (h .rest) size refl)
 
       part-covered : Covered start next-rows
-      part-covered =
-          let r = rising-drop a (s .given .kept .covered .rising) in
-          let cut : drop a rows ≡ next-rows ++ drop size (drop a rows) = sym (take-append-drop size (drop a rows)) in
-          let p = parted next-rows (drop size (drop a rows)) (omega arith) (rw cut at r) in
-          record { some = omega (arith, h .some, ap length part-own, length-positions start next-rows); rising = rising-wider (omega arith) (p .high) (p .front) }
+      part-covered = record {
+        some = omega (arith, h .some, ap length part-own, length-positions start next-rows);
+        rising = rising-take size (rising-drop a (s .given .kept .covered .rising));
+      }
 
       -- the payload ends within the body
       fits : at + length (payloadOf (h .seg)) ≤ length (segmentedLayout segs)
@@ -217,8 +204,8 @@ module _ {n : ℕ} {t : List ℕ} {start : ℕ} {rows : List ℕ} {m : ℕ} {bef
         unfolding entriesOf payloadAt
         entry-is =
             let offset : directorySize m + total (entriesOf segs .size) i ≡ at = omega (arith, s .laying .place, flat-total (payloadAt segs) (entriesOf segs .size) i (λ j l. refl)) in
-            rw (payload-is, stats-own) (entry-own start next-rows part-covered a at (length (payloadOf (h .seg))) ∙ ap (λ (xs : List ℕ). entryOf xs a at (length (payloadOf (h .seg)))) part-own
-            ∙ sym (ap (λ (xs : List ℕ). entryOf xs _ _ (length (payloadOf xs))) segment-is ∙ ap₂ (λ (o f : ℕ). entryOf (h .seg) o f (length (payloadOf (h .seg)))) (s .sum) offset))
+            rw (payload-is, stats-own) (entry-own start next-rows part-covered a at (length (payloadOf (h .seg))) ∙ ap (λ (xs : List ℕ). ownEntry xs a at (length (payloadOf (h .seg)))) part-own
+            ∙ sym (ap (λ (xs : List ℕ). ownEntry xs _ _ (length (payloadOf xs))) segment-is ∙ ap₂ (λ (o f : ℕ). ownEntry (h .seg) o f (length (payloadOf (h .seg)))) (s .sum) offset))
 
         placed-next : {out′ : List ℕ} {r : ℕ} → Placed (directorySize i) at (entryBy u (localForm u .tag) a at (length (payloadBy u (take (a + u .count - a) (drop a rows))))) (payloadBy u (take (a + u .count - a) (drop a rows))) out out′ r
             → Placing n t start rows m before (next t x) (i + 1) (a + u .count) r out′
@@ -231,7 +218,7 @@ module _ {n : ℕ} {t : List ℕ} {start : ℕ} {rows : List ℕ} {m : ℕ} {bef
               rest = rw (count-own, rest-own, rest-segments) (h .held);
               most = omega (arith, count-own, inside);
               sum = rw (add-one i) (omega (arith, s .sum, count-own, ap length segment-is));
-              laying = laying-next (entriesOf segs) (payloadAt segs) m before (s .laying) left (local-tag (local-chosen (statsOf (segmentAt segs i)))) placed;
+              laying = laying-next (entriesOf segs) (payloadAt segs) m before (s .laying) left (tag-small (segmentAt segs i)) placed;
             }
 
     pub turn-inside : {u : Stats} → x < n → u ≡ statAt t x → a + u .count ≤ length rows

@@ -2,15 +2,15 @@
 -- Assumes nothing.
 use mathlib.Core.Path.{_≡_, sym, ap, _∙_}
 use mathlib.Core.Logic.{⊎-elim}
-use mathlib.Core.List.{List, [], _∷_, _++_, append-assoc, append-nil}
+use mathlib.Core.List.{List, _++_, append-assoc, append-nil}
 use Prim.Native.Nat.{ℕ, _+_, _*_, _<_, _≤_}
 use native.Mathlib.Nat.{le-trans}
 use native.Mathlib.Omega.{arith}
 use lib.ListN.{length, length-append}
 use borrow.Author.Tests.{le-leb, lt-leb}
 use Rattle.model.proofs.Tests.{pick-true, pick-false, order}
-use Rattle.model.specs.Lists.{Rising, none, more}
-use Rattle.model.proofs.Rising.{rising-low, rising-high, rising-rest, rising-append}
+use Rattle.model.specs.Lists.{Rising, none}
+use Rattle.model.proofs.Rising.{rising-append, rising-split}
 use Rattle.cost.specs.declared.Stats.{Stats}
 use Rattle.cost.specs.declared.Form.{Form}
 use Rattle.cost.specs.Sizes.{depthOf}
@@ -74,21 +74,6 @@ local-depth {s} o h bitmap = shallow _ (omega arith)
 pub form-short : (s : Stats) {f : Form} → spanOf s ≤ 65535 → f ≡ localForm s → f .bytes ≤ 8704
 form-short s h e = rw e (local-short s h)
 
--- ---- a rising list in two parts
-
-pub record Parted (a b : ℕ) (xs ys : List ℕ) : Type 0 where
-  pub mid : ℕ
-  pub front : Rising a mid xs
-  pub back : Rising mid b ys
-  pub low : a ≤ mid
-  pub high : mid ≤ b
-
-pub parted : {a b : ℕ} (xs ys : List ℕ) → a ≤ b → Rising a b (xs ++ ys) → Parted a b xs ys
-parted {a} [] ys h r = record { mid = a; front = none; back = r; low = omega arith; high = h }
-parted (x ∷ xs) ys h r =
-    let p = parted xs ys (rising-high r) (rising-rest r) in
-    record { mid = p .mid; front = more {b = p .mid} (rising-low r) (omega arith) (p .front); back = p .back; low = omega (arith, rising-low r); high = p .high }
-
 -- ---- the walk
 
 -- y is gathered of the rows gone, and the records lead on from x through the rest
@@ -123,13 +108,13 @@ module _ {n : ℕ} {t : List ℕ} where
   pub first-sound : Known n t → Sound (statAt t 0)
   first-sound k =
       let a = first k in
-      let q = parted (a .seg) (a .rest) (omega arith) (rw (a .cut) at (k .rising)) in
+      let q = rising-split (a .seg) (a .rest) (omega arith) (rw (a .cut) at (k .rising)) in
       rw (a .stats) (stats-sound (q .front) (a .some) (q .high))
 
   begun-by : (k : Known n t) → Ahead n t 0 (k .rows) (k .segs) → Summing n t (next t 0) (one (statAt t 0))
   unfolding one statsEach payloads deepest widest
   begun-by k a =
-      let q = parted (a .seg) (a .rest) (omega arith) (rw (a .cut) at (k .rising)) in
+      let q = rising-split (a .seg) (a .rest) (omega arith) (rw (a .cut) at (k .rising)) in
       let short : spanOf (statAt t 0) ≤ 65535 = rw (a .stats) (a .short) in
       record {
         rows = k .rows;
@@ -163,7 +148,7 @@ module _ {n : ℕ} {t : List ℕ} where
     pub adds : n < 65536 → x < n → Adds y (statAt t x)
     adds k l =
         let a = ahead l (s .held) in
-        let q = parted (a .seg) (a .rest) (s .inside) (rw (a .cut) at (s .ahead)) in
+        let q = rising-split (a .seg) (a .rest) (s .inside) (rw (a .cut) at (s .ahead)) in
         record {
           bounded = record { few = omega (arith, s .few); size = s .size; low = s .low };
           pair = rw (s .stats, a .stats) (stats-neighbours (s .passed) (q .front) (s .some) (a .some) (q .low) (q .high));
@@ -173,7 +158,7 @@ module _ {n : ℕ} {t : List ℕ} where
     added-by : Adds y (statAt t x) → Ahead n t x (s .rest) (s .togo) → Summing n t (next t x) (also y (statAt t x))
     unfolding also statsEach payloads deepest widest
     added-by d a =
-        let q = parted (a .seg) (a .rest) (s .inside) (rw (a .cut) at (s .ahead)) in
+        let q = rising-split (a .seg) (a .rest) (s .inside) (rw (a .cut) at (s .ahead)) in
         record {
           rows = s .rows;
           segs = s .segs;

@@ -22,7 +22,7 @@ use Rattle.word.proofs.Places.{below-bits}
 use Rattle.word.proofs.Numbers.{num-bits, num-lt, bits-num}
 use Rattle.bitmap.specs.Body.{wordsOf, groupsOf, bitmapLength, number, stated, before, bitmapNames, bitmapAccepts, bitmapLayout}
 use Rattle.bitmap.proofs.Words.{number-lt}
-use Rattle.bitmap.proofs.Groups.{stated-at, Parts, ok-parts, parts-ok}
+use Rattle.bitmap.proofs.Groups.{stated-at, ok-parts, parts-ok}
 
 -- ---- a list that fits
 
@@ -82,26 +82,25 @@ module _ (s : ℕ) (rows : List ℕ) (rising : Rising 0 s rows) where
 -- ---- a body that is accepted
 
 module _ (xs : List ℕ) (bytes : Bytes xs) (s n : ℕ) (ok : bitmapAccepts xs s n ≡ true) where
-  parts : Parts xs s n
-  parts = ok-parts xs s n ok
-
   number-back : numFrom 0 (bitmapNames xs s) ≡ number xs s
   number-back = bits-num (64 * wordsOf s) 0 (number xs s) ∙ mod-eq-of-lt (number-lt xs bytes s)
 
   head : (g : ℕ) → g < groupsOf s → digits 2 (below (bitmapNames xs s) (256 * g)) ≡ take 2 (drop (g * 2) xs)
   head g h =
+      let p = ok-parts xs s n ok in
       let e : 2 * g ≡ g * 2 = omega arith in
-      let b : below (bitmapNames xs s) (256 * g) ≡ le 2 xs (g * 2) = below-bits (64 * wordsOf s) (256 * g) (number xs s) (omega arith) ∙ sym (parts .right g h) ∙ rw (← e) (sym (stated-at xs g)) in
-      rw b (digits-le 2 xs (g * 2) bytes (omega (arith, parts .sized)))
+      let b : below (bitmapNames xs s) (256 * g) ≡ le 2 xs (g * 2) = below-bits (64 * wordsOf s) (256 * g) (number xs s) (omega arith) ∙ sym (p .right g h) ∙ rw (← e) (sym (stated-at xs g)) in
+      rw b (digits-le 2 xs (g * 2) bytes (omega (arith, p .sized)))
 
   -- it is the layout of what it names
   pub bitmap-layout : bitmapLayout s (bitmapNames xs s) ≡ xs
   unfolding bitmapLayout
   bitmap-layout =
+      let p = ok-parts xs s n ok in
       let heads : flat (λ (g : ℕ). digits 2 (below (bitmapNames xs s) (256 * g))) (groupsOf s) ≡ take (groupsOf s * 2) xs =
       flat-same _ _ (groupsOf s) head ∙ pieces 2 (groupsOf s) xs in
       let words : digits (8 * wordsOf s) (number xs s) ≡ drop (2 * groupsOf s) xs =
-      digits-le (8 * wordsOf s) xs (2 * groupsOf s) bytes (omega (arith, parts .sized))
-      ∙ take-all (8 * wordsOf s) (drop (2 * groupsOf s) xs) (omega (arith, length-drop (2 * groupsOf s) xs, parts .sized)) in
+      digits-le (8 * wordsOf s) xs (2 * groupsOf s) bytes (omega (arith, p .sized))
+      ∙ take-all (8 * wordsOf s) (drop (2 * groupsOf s) xs) (omega (arith, length-drop (2 * groupsOf s) xs, p .sized)) in
       let e : groupsOf s * 2 ≡ 2 * groupsOf s = omega arith in
       rw (heads, number-back, words, e) (take-append-drop (2 * groupsOf s) xs)

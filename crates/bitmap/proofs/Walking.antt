@@ -1,6 +1,6 @@
 -- The rows that are left in the middle of a walk, and what is written of them.
 -- Assumes nothing.
-use mathlib.Core.Path.{_≡_, refl, sym, _∙_}
+use mathlib.Core.Path.{_≡_, sym, _∙_}
 use mathlib.Core.List.{List, [], _∷_, _++_}
 use Prim.Native.Nat.{ℕ, _+_, _-_, _*_, _%_, _≤_, _<_}
 use native.Mathlib.Nat.{zero-add, add-zero}
@@ -12,7 +12,7 @@ use Rattle.model.specs.Lists.{shift, moved}
 use Rattle.model.specs.Answers.{Walked}
 use Rattle.model.proofs.Append.{length-shift, getD-shift, shift-drop}
 use Rattle.model.proofs.Taking.{drop-past}
-use Rattle.model.proofs.Writing.{over-none, Filled, filled-start, filled-more, filled-end}
+use Rattle.model.proofs.Writing.{Filled, filled-start, filled-more, filled-end, walks-none}
 use Rattle.word.specs.Bits.{bitsFrom, bitsOf}
 use Rattle.word.proofs.Bits.{bits-zero, bits-moved}
 use Rattle.bitmap.specs.Body.{wordsOf, wordOf}
@@ -88,7 +88,7 @@ no-select xs s k e = rw e
 
 pub no-walk : (xs : List ℕ) (s k base : ℕ) (old : List ℕ) → bitmapRest xs s k ≡ [] → Walked (bitmapWalk xs s k base (length old)) old old 0
 unfolding moved
-no-walk xs s k base old e = rw (e, take-nil) (record { written = sym (over-none old); number = refl })
+no-walk xs s k base old e = walks-none old (rw (e, take-nil))
 
 -- ---- writing
 

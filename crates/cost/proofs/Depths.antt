@@ -37,5 +37,4 @@ unfolding depthOf
 depth-leading k n h = omega (arith, binary-leading k n, binary-enough n k n (below-power n) h)
 
 pub depth-least : (k n : ℕ) → n < 2 ^ k → depthOf n ≤ k
-unfolding depthOf
-depth-least k n h = omega (arith, binary-leading k n, binary-enough n k n (below-power n) h)
+depth-least k n h = omega (arith, depth-leading k n h)

@@ -1,16 +1,15 @@
 -- The stated bytes of each form are the length of its layout, by the statistics of the rows laid out.
 -- Assumes nothing.
-use mathlib.Core.Path.{_≡_, sym, ap, _∙_}
+use mathlib.Core.Path.{_≡_, refl, sym, _∙_}
 use mathlib.Core.Bool.{Bool, true, false}
-use mathlib.Core.Logic.{⊎-elim}
 use mathlib.Core.List.{List, []}
-use Prim.Native.Nat.{ℕ, zero, suc, _+_, _-_, _*_, _<_, _≤_}
-use native.Mathlib.Nat.{mul-comm, zero-add, eq-or-lt-of-le}
+use Prim.Native.Nat.{ℕ, _+_, _-_, _*_}
+use native.Mathlib.Nat.{mul-comm, zero-add}
 use native.Mathlib.Omega.{arith}
 use lib.ListN.{length, getD}
 use Rattle.model.specs.Lists.{Rising, complement, runsOf, positionsOf}
 use Rattle.model.proofs.Complement.{complement-length}
-use Rattle.model.proofs.Rising.{rising-strict, rising-tests}
+use Rattle.model.proofs.Rising.{rising-ends}
 use Rattle.lists.specs.Lists.{listLayout}
 use Rattle.lists.proofs.Bytes.{length-layout}
 use Rattle.runs.specs.Runs.{runsLayout}
@@ -21,7 +20,6 @@ use Rattle.bitmap.proofs.Laying.{laid-length}
 use Rattle.cost.specs.Statistics.{statsOf, spanOf}
 use Rattle.cost.specs.declared.Form.{Form}
 use Rattle.cost.specs.Forms.{itemsForm, bitmapForm, denseForm, localForm, wholeForm}
-use Rattle.cost.proofs.Joining.{reach}
 use Rattle.model.proofs.Positions.{length-positions, positions-rising, runs-positions}
 use Rattle.cost.proofs.Chosen.{Local, dense, list, runs, missing, bitmap, local-chosen, Whole, list32, list16, runs16, runs32, trimmed-bitmap, trimmed-missing, whole-chosen}
 
@@ -47,32 +45,19 @@ module _ (span : ℕ) (xs : List ℕ) (rising : Rising 0 span xs) where
 
 -- ---- a segment, its rows counted from its first
 
-module _ (xs : List ℕ) {a b : ℕ} (rising : Rising a b xs) (some : 1 ≤ length xs) where
+abbrev pub ownOf : List ℕ → List ℕ
+ownOf xs = positionsOf (getD xs 0 0) xs
+
+module _ (xs : List ℕ) {a b : ℕ} (rising : Rising a b xs) where
   abbrev first : ℕ
   first = getD xs 0 0
 
   abbrev own : List ℕ
-  own = positionsOf first xs
+  own = ownOf xs
 
   tight : Rising first (first + spanOf (statsOf xs)) xs
   unfolding statsOf
-  tight =
-      let up = reach rising some in
-      rising-tests first (first + spanOf (statsOf xs)) xs (λ i l. from i l) (λ i l. before i l) (λ i l. rising-strict rising i (suc i) (omega arith) l)
-    where
-      from : (i : ℕ) → i < length xs → first ≤ getD xs i 0
-      from zero l = omega arith
-      from (suc i) l = omega (arith, rising-strict rising 0 (suc i) (omega arith) l)
-
-      at-most : (i : ℕ) → i < length xs → i ≤ length xs - 1
-      at-most i l = omega arith
-
-      before : (i : ℕ) → i < length xs → getD xs i 0 < first + (getD xs (length xs - 1) 0 - first + 1)
-      before i l =
-          ⊎-elim
-          (λ q. omega (arith, ap (λ (k : ℕ). getD xs k 0) q))
-          (λ m. omega (arith, rising-strict rising i (length xs - 1) m (omega arith)))
-          (eq-or-lt-of-le (at-most i l))
+  tight = rising-ends rising refl
 
   pub own-rising : Rising 0 (spanOf (statsOf xs)) own
   own-rising =
@@ -109,9 +94,6 @@ module _ (xs : List ℕ) {a b : ℕ} (rising : Rising a b xs) (some : 1 ≤ leng
 
 -- ---- a whole row set: a header before the same layouts
 
-abbrev pub ownOf : List ℕ → List ℕ
-ownOf xs = positionsOf (getD xs 0 0) xs
-
 -- a layout by tag, trimming and span that has document 01's headers
 pub record Headed (layout : ℕ → Bool → ℕ → List ℕ → List ℕ) (span : ℕ) (xs : List ℕ) : Type 0 where
   pub h1 : length (layout 1 false span xs) ≡ 0
@@ -124,7 +106,7 @@ pub record Headed (layout : ℕ → Bool → ℕ → List ℕ → List ℕ) (spa
   pub t6 : length (layout 6 true span xs) ≡ 12 + length (bitmapLayout (spanOf (statsOf xs)) (ownOf xs))
   pub t8 : length (layout 8 true span xs) ≡ 8 + length (missingLayout (spanOf (statsOf xs)) (ownOf xs))
 
-module _ (layout : ℕ → Bool → ℕ → List ℕ → List ℕ) (span : ℕ) (xs : List ℕ) (rising : Rising 0 span xs) (some : 1 ≤ length xs) (h : Headed layout span xs) where
+module _ (layout : ℕ → Bool → ℕ → List ℕ → List ℕ) (span : ℕ) (xs : List ℕ) (rising : Rising 0 span xs) (h : Headed layout span xs) where
   abbrev extent : ℕ
   extent = spanOf (statsOf xs)
 
@@ -136,9 +118,9 @@ module _ (layout : ℕ → Bool → ℕ → List ℕ → List ℕ) (span : ℕ) 
   each-whole _ (runs16 e) = sym (h .h4 ∙ rw (runs-bytes 2 xs))
   each-whole _ (runs32 e) = sym (h .h5 ∙ rw (runs-bytes 4 xs))
   each-whole _ bitmap = sym (h .h6 ∙ rw (bitmap-bytes span xs rising))
-  each-whole _ trimmed-bitmap = sym (h .t6 ∙ rw (bitmap-bytes extent (ownOf xs) (own-rising xs rising some)))
+  each-whole _ trimmed-bitmap = sym (h .t6 ∙ rw (bitmap-bytes extent (ownOf xs) (own-rising xs rising)))
   each-whole _ (missing e) = sym (h .h7 ∙ rw (missing-bytes span xs rising))
-  each-whole _ (trimmed-missing e) = sym (h .t8 ∙ rw (missing-bytes extent (ownOf xs) (own-rising xs rising some), own-count xs rising some))
+  each-whole _ (trimmed-missing e) = sym (h .t8 ∙ rw (missing-bytes extent (ownOf xs) (own-rising xs rising), own-count xs rising))
 
   pub whole-bytes : wholeForm (statsOf xs) span .bytes ≡ length (layout (wholeForm (statsOf xs) span .tag) (wholeForm (statsOf xs) span .trimmed) span xs)
   whole-bytes = each-whole (wholeForm (statsOf xs) span) (whole-chosen (statsOf xs) span)

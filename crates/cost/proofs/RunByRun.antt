@@ -6,14 +6,14 @@ use mathlib.Core.Logic.{⊎-elim}
 use mathlib.Core.List.{List, [], _∷_}
 use Prim.Native.Nat.{ℕ, suc, _+_, _-_, _<_, _≤_}
 use native.Mathlib.Nat.{add-zero}
-use native.Mathlib.Numerals.{add-one}
 use native.Mathlib.Omega.{arith}
 use lib.Dec.{eqb}
 use lib.ListN.{length, getD, drop, length-drop, drop-of-length-le}
-use lib.Seq.{drop-cons, drop-drop}
+use lib.Seq.{drop-drop}
 use Rattle.model.specs.Tests.{pick}
 use Rattle.model.specs.Lists.{Run, run, onto, runsOf}
 use Rattle.model.proofs.Tests.{either, pick-true, pick-false}
+use Rattle.model.proofs.Taking.{drop-step}
 use Rattle.model.proofs.Runs.{runs-cons}
 use Rattle.cost.specs.Rows.{stretch, runEnd}
 
@@ -46,7 +46,7 @@ unfolding runEnd
 run-at rows i h =
     let n = stretch (getD rows i 0) (drop (i + 1) rows) in
     let e : i + 1 + n - i ≡ suc n = omega arith in
-    rw (e, ← drop-drop n (i + 1) rows, drop-cons rows i 0 h, ← add-one i) (first-run (getD rows i 0) (drop (i + 1) rows))
+    rw (e, ← drop-drop n (i + 1) rows, drop-step rows i 0 h) (first-run (getD rows i 0) (drop (i + 1) rows))
 
 pub run-after : (rows : List ℕ) (i : ℕ) → i < runEnd rows i
 unfolding runEnd
@@ -69,18 +69,15 @@ module _ (rows : List ℕ) (i : ℕ) where
   running-start h = let e : i + 1 - 1 ≡ i = omega arith in record { begun = omega arith; within = omega arith; whole = rw e }
 
   module _ (j : ℕ) (k : Running rows i j) (h : j < length rows) where
-    rest : drop j rows ≡ getD rows j 0 ∷ drop (j + 1) rows
-    rest = rw (add-one, drop-cons rows j 0)
-
     pub running-next : eqb (getD rows j 0) (suc (getD rows (j - 1) 0)) ≡ true → Running rows i (j + 1)
     running-next e =
         let b = k .begun in
         let z : j + 1 - 1 ≡ j = omega arith in
         let s = stretch-on (getD rows (j - 1) 0) (getD rows j 0) (drop (j + 1) rows) e in
-        record { begun = omega arith; within = omega arith; whole = k .whole ∙ rw (rest, s, z) (omega arith) }
+        record { begun = omega arith; within = omega arith; whole = k .whole ∙ rw (drop-step rows j 0 h, s, z) (omega arith) }
 
     pub running-stop : eqb (getD rows j 0) (suc (getD rows (j - 1) 0)) ≡ false → j ≡ runEnd rows i
-    running-stop e = sym (k .whole ∙ rw (rest, stretch-off (getD rows (j - 1) 0) (getD rows j 0) (drop (j + 1) rows) e) (add-zero j))
+    running-stop e = sym (k .whole ∙ rw (drop-step rows j 0 h, stretch-off (getD rows (j - 1) 0) (getD rows j 0) (drop (j + 1) rows) e) (add-zero j))
 
   pub running-end : (j : ℕ) → Running rows i j → length rows ≤ j → j ≡ runEnd rows i
   unfolding stretch
@@ -112,8 +109,8 @@ module _ (rows : List ℕ) where
       let x = getD rows i 0 in
       let y = getD rows (i + 1) 0 in
       let f : k ≡ pick {A = ℕ} (eqb y (suc x)) 0 1 = rw e at (n .0) in
-      let one : drop i rows ≡ x ∷ drop (i + 1) rows = rw (add-one i, drop-cons rows i 0 (omega arith)) in
-      let two : drop (i + 1) rows ≡ y ∷ drop (i + 1 + 1) rows = rw (add-one (i + 1), drop-cons rows (i + 1) 0 h) in
+      let one = drop-step rows i 0 (omega arith) in
+      let two = drop-step rows (i + 1) 0 h in
       let s : length (runsOf (drop i rows)) ≡ k + length (runsOf (drop (i + 1) rows)) = rw (one, two, f) (run-front x y (drop (i + 1 + 1) rows)) in
       record { few = omega (arith, c .few, n .1); within = omega arith; whole = omega (arith, c .whole, s) }
 
@@ -121,7 +118,5 @@ module _ (rows : List ℕ) where
   unfolding runsOf onto
   counting-end runs i c some h =
       let w = c .within in
-      let d : drop (i + 1) rows ≡ [] = drop-of-length-le rows h in
-      let one : drop i rows ≡ getD rows i 0 ∷ [] = rw (drop-cons rows i 0 (omega arith), ← add-one i, d) in
-      let n : length (runsOf (drop i rows)) ≡ 1 = rw one refl in
+      let n : length (runsOf (drop i rows)) ≡ 1 = rw (drop-step rows i 0 (omega arith), drop-of-length-le rows h) refl in
       omega (arith, c .whole, n)

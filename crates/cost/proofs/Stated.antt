@@ -20,10 +20,10 @@ use Rattle.cost.proofs.Joining.{reach}
 use Rattle.cost.proofs.Layouts.{local-bytes, ownOf, Headed, whole-bytes}
 
 -- a segment: the layout of its rows counted from its first
-pub stated-local : (xs : List ℕ) {a b : ℕ} → Rising a b xs → 1 ≤ length xs
+pub stated-local : (xs : List ℕ) {a b : ℕ} → Rising a b xs
     → localForm (statsOf xs) .bytes ≡ length (localLayout (localForm (statsOf xs) .tag) (spanOf (statsOf xs)) (ownOf xs))
 unfolding localLayout byTag pick
-stated-local xs r some = local-bytes xs r some localLayout refl refl refl refl refl
+stated-local xs r = local-bytes xs r localLayout refl refl refl refl refl
 
 -- two fields before a payload, three and four
 two : (a b u v : ℕ) (ys : List ℕ) → length (digits a u ++ digits b v ++ ys) ≡ a + b + length ys
@@ -36,13 +36,14 @@ four : (a b c d u v w x : ℕ) (ys : List ℕ) → length (digits a u ++ digits 
 four a b c d u v w x ys = simp (length-append, length-digits) (omega arith)
 
 -- the extent of the layout is the statistics' span
-extent : (xs : List ℕ) {a b : ℕ} → Rising a b xs → 1 ≤ length xs → extentOf xs ≡ spanOf (statsOf xs)
+pub extent-span : (xs : List ℕ) {a b : ℕ} → Rising a b xs → 1 ≤ length xs → extentOf xs ≡ spanOf (statsOf xs)
 unfolding extentOf firstOf statsOf
-extent xs r some = omega (arith, reach r some)
+extent-span xs r some = omega (arith, reach r some)
 
-own : (xs : List ℕ) → positionsOf (firstOf xs) xs ≡ ownOf xs
+-- and its rows are counted from the first
+pub own-is : (xs : List ℕ) → positionsOf (firstOf xs) xs ≡ ownOf xs
 unfolding firstOf
-own xs = refl
+own-is xs = refl
 
 headed : (span : ℕ) (xs : List ℕ) {a b : ℕ} → Rising a b xs → 1 ≤ length xs → Headed singleLayout span xs
 unfolding singleLayout plainLayout trimmedLayout localLayout byTag pick
@@ -54,11 +55,11 @@ headed span xs r some = record {
   h5 = two 2 2 (length xs) (length (runsOf xs)) (runsLayout 4 xs);
   h6 = two 2 2 (length xs) 0 (bitmapLayout span xs);
   h7 = two 2 2 (length xs) 0 (missingLayout span xs);
-  t6 = four 2 2 4 4 (length xs) 1 (firstOf xs) (extentOf xs) (bitmapLayout (extentOf xs) (positionsOf (firstOf xs) xs)) ∙ rw (extent xs r some, own xs);
-  t8 = three 4 2 2 (firstOf xs) (extentOf xs) (length xs) (missingLayout (extentOf xs) (positionsOf (firstOf xs) xs)) ∙ rw (extent xs r some, own xs);
+  t6 = four 2 2 4 4 (length xs) 1 (firstOf xs) (extentOf xs) (bitmapLayout (extentOf xs) (positionsOf (firstOf xs) xs)) ∙ rw (extent-span xs r some, own-is xs);
+  t8 = three 4 2 2 (firstOf xs) (extentOf xs) (length xs) (missingLayout (extentOf xs) (positionsOf (firstOf xs) xs)) ∙ rw (extent-span xs r some, own-is xs);
 }
 
 -- a whole body, its header with it
 pub stated-whole : (span : ℕ) (xs : List ℕ) → Rising 0 span xs → 1 ≤ length xs
     → wholeForm (statsOf xs) span .bytes ≡ length (singleLayout (wholeForm (statsOf xs) span .tag) (wholeForm (statsOf xs) span .trimmed) span xs)
-stated-whole span xs r some = whole-bytes singleLayout span xs r some (headed span xs r some)
+stated-whole span xs r some = whole-bytes singleLayout span xs r (headed span xs r some)

@@ -14,14 +14,15 @@ use lib.Seq.{take-all}
 use borrow.Author.Tests.{le-leb, eq-eqb}
 use Rattle.model.specs.Tests.{pick}
 use Rattle.model.specs.Lists.{has, walkOf}
-use Rattle.model.specs.Answers.{Answer, accepted, refused, over}
+use Rattle.model.specs.Answers.{accepted, refused, over}
 use Rattle.model.proofs.Tests.{either, pick-true, pick-false, both-true}
 use Rattle.model.proofs.Rising.{rising-room}
 use Rattle.model.proofs.Positions.{positions-zero}
 use Rattle.model.proofs.Writing.{over-take}
+use Rattle.model.proofs.Answers.{same-number}
 use Rattle.bodies.specs.Bodies.{accepts}
-use Rattle.planning.specs.Planning.{plannedForm, plannedBody, plannedSegments, plannedOffers, plannedValues, planNumber, planOf, planOut}
-use Rattle.planning.proofs.Accepted.{Planned, planned, plan-divided, plan-number, plan-accepted}
+use Rattle.planning.specs.Planning.{plannedForm, plannedBody, planNumber, planOf, planOut}
+use Rattle.planning.proofs.Accepted.{Planned, planned, plan-divided, plan-number}
 use Rattle.deletion.specs.Reading.{bodyLimit, blockFits, statedFit, codedNumber, sectionNumber, deletedOf, checkAnswer, containsAnswer, walkAnswer, walkLeft}
 use Rattle.deletion.specs.Striking.{noDeletions, strikes, strikeOf, strikeOut}
 use Rattle.deletion.specs.declared.Section.{Section}
@@ -41,7 +42,7 @@ unfolding strikeOf
 strike-fits rows limit ordinals words room ok =
     ⊎-elim
     (λ e. e)
-    (λ e. let z : _≡_ {A = ℕ} 9 0 = sym (ap (λ (a : Answer). a .number) (pick-false (pick (leb 1 (length ordinals)) (planOf 0 rows ordinals [] (bodyLimit rows) words room) noDeletions) (refused 9) e)) ∙ ok in absurd (omega arith))
+    (λ e. let z : _≡_ {A = ℕ} 9 0 = sym (same-number (pick-false (pick (leb 1 (length ordinals)) (planOf 0 rows ordinals [] (bodyLimit rows) words room) noDeletions) (refused 9) e)) ∙ ok in absurd (omega arith))
     (either (blockFits rows limit))
 
 module _ (rows limit : ℕ) (ordinals : List ℕ) (words : ℕ) (out : List ℕ) (some : 1 ≤ length ordinals) (ok : strikeOf rows limit ordinals words (length out) .number ≡ 0) where
@@ -53,14 +54,10 @@ module _ (rows limit : ℕ) (ordinals : List ℕ) (words : ℕ) (out : List ℕ)
   same-answer = pick-true _ _ fits ∙ pick-true _ _ (le-leb 1 (length ordinals) some)
 
   number : planNumber 0 rows ordinals [] (bodyLimit rows) words (length out) ≡ 0
-  number = sym (plan-number 0 rows ordinals [] (bodyLimit rows) words (length out)) ∙ ap (λ (a : Answer). a .number) (sym same-answer) ∙ ok
+  number = sym (plan-number 0 rows ordinals [] (bodyLimit rows) words (length out)) ∙ same-number (sym same-answer) ∙ ok
 
   plan : Planned 0 rows ordinals [] (bodyLimit rows) (length out)
   plan = planned 0 rows ordinals [] (bodyLimit rows) words (length out) number
-
-  -- tag, body length, segments after merging and offers
-  pub struck-values : strikeOf rows limit ordinals words (length out) ≡ accepted (plannedValues (plannedForm 0 rows ordinals []) (length (plannedSegments 0 ordinals [])) (plannedOffers 0 ordinals []))
-  struck-values = same-answer ∙ plan-accepted 0 rows ordinals [] (bodyLimit rows) words (length out) number
 
   pub struck-front : struckBody rows limit ordinals words out ≡ plannedBody 0 rows ordinals []
   unfolding strikeOut strikes planOut

@@ -1,7 +1,7 @@
 -- Refusal 6 never comes from deletion planning: the plan is no longer than the cheapest whole form, and a bitmap of all rows is one
 -- of those.
 -- Assumes nothing.
-use mathlib.Core.Path.{_≡_, refl, sym, ap, _∙_}
+use mathlib.Core.Path.{_≡_, refl, sym, _∙_}
 use mathlib.Core.Bool.{false}
 use mathlib.Core.Logic.{⊎-elim}
 use mathlib.Core.List.{List, [], _++_}
@@ -12,12 +12,13 @@ use lib.Dec.{eqb, leb, lit<}
 use lib.ListN.{length}
 use borrow.Author.Tests.{le-leb}
 use Rattle.model.specs.Tests.{pick}
-use Rattle.model.specs.Answers.{Answer, refused}
+use Rattle.model.specs.Answers.{refused}
 use Rattle.model.proofs.Tests.{either, pick-true, pick-false, both-true}
 use Rattle.bitmap.specs.Body.{bitmapLength}
 use Rattle.cost.specs.declared.Stats.{Stats}
 use Rattle.cost.specs.Forms.{itemsForm, bitmapForm, denseForm, always, plainOffers, trimmedOffers, wholeForm}
 use Rattle.model.specs.Lists.{positionsOf}
+use Rattle.model.proofs.Answers.{same-number}
 use Rattle.cost.specs.Statistics.{statsOf}
 use Rattle.cost.proofs.Least.{least-each}
 use Rattle.planning.specs.Refusals.{earlyNumber}
@@ -73,12 +74,12 @@ never-six rows limit ordinals words room small e =
     let inner = pick (leb 1 (length ordinals)) plan noDeletions in
     ⊎-elim
     (λ h.
-    let e1 : inner .number ≡ 6 = sym (ap (λ (a : Answer). a .number) (pick-true inner (refused 9) h)) ∙ e in
+    let e1 : inner .number ≡ 6 = sym (same-number (pick-true inner (refused 9) h)) ∙ e in
     ⊎-elim
     (λ g.
     plan-other rows ordinals words room small
-    (sym (plan-number 0 rows ordinals [] (bodyLimit rows) words room) ∙ sym (ap (λ (a : Answer). a .number) (pick-true plan noDeletions g)) ∙ e1))
-    (λ g. let z : _≡_ {A = ℕ} 0 6 = sym (ap (λ (a : Answer). a .number) (pick-false plan noDeletions g)) ∙ e1 in omega arith)
+    (sym (plan-number 0 rows ordinals [] (bodyLimit rows) words room) ∙ sym (same-number (pick-true plan noDeletions g)) ∙ e1))
+    (λ g. let z : _≡_ {A = ℕ} 0 6 = sym (same-number (pick-false plan noDeletions g)) ∙ e1 in omega arith)
     (either (leb 1 (length ordinals))))
-    (λ h. let z : _≡_ {A = ℕ} 9 6 = sym (ap (λ (a : Answer). a .number) (pick-false inner (refused 9) h)) ∙ e in omega arith)
+    (λ h. let z : _≡_ {A = ℕ} 9 6 = sym (same-number (pick-false inner (refused 9) h)) ∙ e in omega arith)
     (either (blockFits rows limit))

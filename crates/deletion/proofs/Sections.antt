@@ -14,6 +14,7 @@ use Rattle.model.proofs.Tests.{pick-true, pick-false, both-true, both-left, bot
 use Rattle.gather.proofs.Admitted.{passes}
 use Rattle.bodies.specs.Bodies.{accepts, names}
 use Rattle.planning.specs.Planning.{answered}
+use Rattle.planning.proofs.Accepted.{answered-none, answered-some}
 use Rattle.deletion.specs.Reading.{codedNumber, sectionNumber, deletedOf, statedOf, sound}
 use Rattle.deletion.specs.declared.Section.{Section}
 use Rattle.deletion.specs.declared.Section.the-variants as section
@@ -22,12 +23,10 @@ use Rattle.deletion.specs.declared.Section.the-variants as section
 
 module _ {r n : ℕ} (e : r ≡ n) where
   pub refuses : (vs : List ℕ) → (r ≡ 0 → ⊥) → refused r ≡ answered n vs
-  unfolding answered
-  refuses vs h = rw (← e) (sym (pick-false _ _ (ne-eqb r 0 h)))
+  refuses vs h = rw (← e) (sym (answered-some r vs h))
 
   pub answers : {vs ws : List ℕ} → r ≡ 0 → vs ≡ ws → accepted vs ≡ answered n ws
-  unfolding answered
-  answers h q = rw q (sym (pick-true _ _ (eq-eqb n 0 (sym e ∙ h))))
+  answers h q = rw q (sym (answered-none n _ (sym e ∙ h)))
 
   -- what is lent: kept as it was, or written
   pub keeps : (new old : List ℕ) → (r ≡ 0 → ⊥) → old ≡ pick (eqb n 0) new old

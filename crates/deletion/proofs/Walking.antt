@@ -16,7 +16,7 @@ use Rattle.model.specs.Answers.{over, Walked}
 use Rattle.model.proofs.Tests.{order}
 use Rattle.model.proofs.Rising.{rising-below}
 use Rattle.model.proofs.Sets.{sets-append, sets-front}
-use Rattle.model.proofs.Writing.{over-none}
+use Rattle.model.proofs.Writing.{walks-none}
 use Rattle.bodies.specs.Bodies.{accepts, names}
 use Rattle.bodies.proofs.Named.{names-rising}
 
@@ -119,4 +119,4 @@ walked-far tag rows body {before} k c e w =
 
 -- a walk of no ordinals writes nothing
 pub walked-none : (before : List ℕ) (k : ℕ) → Walked (walkOf [] k (length before)) before before 0
-walked-none before k = rw (drop-nil k, take-nil (length before)) (record { written = sym (over-none before); number = refl })
+walked-none before k = walks-none before (rw (drop-nil k, take-nil (length before)))

@@ -3,16 +3,16 @@
 use mathlib.Core.Path.{_≡_, refl}
 use mathlib.Core.Bool.{Bool, true, false, not}
 use mathlib.Core.Logic.{_⊎_, inl, inr, ⊎-elim}
-use mathlib.Core.List.{List, [], _∷_, _++_}
+use mathlib.Core.List.{List, [], _∷_}
 use Prim.Native.Nat.{ℕ, suc}
 use lib.Dec.{eqb}
 use lib.ListN.{length, drop}
-use lib.Seq.{drop-append-seam}
 use borrow.Author.Tests.{eq-eqb, ne-eqb}
 use Rattle.model.specs.Tests.{pick, both}
 use Rattle.model.specs.Lists.{has}
-use Rattle.model.specs.Answers.{Answer}
+use Rattle.model.specs.Answers.{Answer, over}
 use Rattle.model.proofs.Tests.{pick-true, pick-false}
+use Rattle.model.proofs.Writing.{over-drop}
 use Rattle.gather.specs.Gather.{orElse}
 use Rattle.demands.specs.Demands.{firstDue, numbersOf}
 
@@ -68,5 +68,5 @@ due-listed [] = inl refl
 due-listed (t ∷ ts) = due-step (t .0) (t .1) (firstDue ts) (numbersOf ts) (due-listed ts)
 
 -- what lies beyond a front of n elements stays
-pub over-beyond : {A : Type 0} (front old : List A) (n : ℕ) → length front ≡ n → drop n (front ++ drop (length front) old) ≡ drop n old
-over-beyond front old n e = rw (← e) (drop-append-seam front (drop (length front) old))
+pub over-beyond : {A : Type 0} (front old : List A) (n : ℕ) → length front ≡ n → drop n (over front old) ≡ drop n old
+over-beyond front old n e = rw (← e) (over-drop front old)

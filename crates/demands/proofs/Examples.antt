@@ -33,7 +33,7 @@ use Rattle.cost.specs.Forms.{itemsForm, bitmapForm, denseForm, orderOf, lex, ke
 use Rattle.gather.specs.declared.Gatherer.{Gatherer}
 use Rattle.gather.specs.Gather.{upAt, rises, impossible, above, early, late, orElse, oneSeed, joins, added, addedTo, addedAll, addedAllTo, seeded, paged, pagedTo, someNumber, pageNumber, pageAnswer, pageTable, kept}
 use Rattle.gather.specs.Gather as gather-specs
-use Rattle.gather.specs.Seeds.{startOf, seedAt, seedsFit, cuts, windows}
+use Rattle.gather.specs.Seeds.{startOf, seedAt, seedsFit, sameAt, cuts, windows}
 use Rattle.merge.specs.Rule.{without, cutsFrom, oneIf, contains, pairs, pairsWith, better, best, afterJoins, laterOffers, merged, offers}
 use Rattle.merge.specs.Pairs.{admits, saves, rowsAdmitted, rowsSaving}
 use Rattle.planning.specs.Refusals.{coverageFits, countFits, rowsFit, givenFit, endsOf, roomFits, earlyNumber}
@@ -119,5 +119,5 @@ cases =
     ∷ []
 
 examples-hold : allHold cases ≡ true
-unfolding cases nothing allHold holds sameAnswer same digits both pick all tabulate flat total range below complement onto runsOf numFrom listLayout missingLayout runsBytes runsLayout bitmapLayout entryLayout directoryLayout byTag localLayout firstOf extentOf plainLayout trimmedLayout singleLayout binary depthOf statsOf joined positionsOf itemsForm bitmapForm denseForm orderOf lex keyOf lesser least localOffers localForm runsForm plainOffers trimmedOffers wholeForm upAt rises startOf seedAt seedsFit cuts windows without cutsFrom oneIf contains pairs pairsWith better best afterJoins laterOffers merged offers payload admits saves rowsAdmitted rowsSaving coverageFits countFits rowsFit givenFit endsOf roomFits earlyNumber part between cutsLeft offersFor pieces segmentsOf statsEach payloads larger deepest widest segmentedForm segmentAt tagOf payloadOf entriesOf payloadAt segmentedLayout choiceKey chosen formFor layoutBy bodyOf plannedSegments plannedOffers plannedForm plannedBody lateNumber plannedValues answered planNumber planOf impossible above early late orElse oneSeed joins added addedTo addedAll addedAllTo seeded paged pagedTo someNumber pageNumber pageAnswer pageTable gather-specs.answered kept validateOf asked accepts names singleAccepts singleNames fieldsOk viewOf viewAccepts namedIn endsOk localAccepts localNames counted shift fit denseAccepts runsAccepts runsNames runCount runsStand runFits runs-specs.fits runs-specs.least mostOf entry le has listAccepts listNames risesBelow climbs missingAccepts missingNames bitmapView trimmedMissingView bitmapAccepts exact bitsFrom named segmentedAccepts segmentedNames partAccepts partNames directoryAccepts segmentsFit segmentFits directory-specs.fits isLocal entryOf partOf endBefore namesOf pieceOf
+unfolding cases nothing allHold holds sameAnswer same digits both pick all tabulate flat total range below complement onto runsOf numFrom listLayout missingLayout runsBytes runsLayout bitmapLayout entryLayout directoryLayout byTag localLayout firstOf extentOf plainLayout trimmedLayout singleLayout binary depthOf statsOf joined positionsOf itemsForm bitmapForm denseForm orderOf lex keyOf lesser least localOffers localForm runsForm plainOffers trimmedOffers wholeForm upAt rises startOf seedAt seedsFit sameAt cuts windows without cutsFrom oneIf contains pairs pairsWith better best afterJoins laterOffers merged offers payload admits saves rowsAdmitted rowsSaving coverageFits countFits rowsFit givenFit endsOf roomFits earlyNumber part between cutsLeft offersFor pieces segmentsOf statsEach payloads larger deepest widest segmentedForm segmentAt tagOf payloadOf entriesOf payloadAt segmentedLayout choiceKey chosen formFor layoutBy bodyOf plannedSegments plannedOffers plannedForm plannedBody lateNumber plannedValues answered planNumber planOf impossible above early late orElse oneSeed joins added addedTo addedAll addedAllTo seeded paged pagedTo someNumber pageNumber pageAnswer pageTable gather-specs.answered kept validateOf asked accepts names singleAccepts singleNames fieldsOk viewOf viewAccepts namedIn endsOk localAccepts localNames counted shift fit denseAccepts runsAccepts runsNames runCount runsStand runFits runs-specs.fits runs-specs.least mostOf entry le has listAccepts listNames risesBelow climbs missingAccepts missingNames bitmapView trimmedMissingView bitmapAccepts exact bitsFrom named segmentedAccepts segmentedNames partAccepts partNames directoryAccepts segmentsFit segmentFits directory-specs.fits isLocal entryOf partOf endBefore namesOf pieceOf
 examples-hold = refl

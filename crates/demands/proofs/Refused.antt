@@ -18,7 +18,7 @@ use Rattle.directory.specs.declared.Segment.{Segment}
 use Rattle.bodies.specs.Bodies.{accepts, names}
 use Rattle.rowset.specs.Calls.{asked, ranksOf, ranksAnswer, ranksLeft, walkAnswer, walkLeft}
 use Rattle.rowset.proofs.Asking.{length-ranks}
-use Rattle.tables.specs.Tables.{entriesOf, overTable, segmentsAnswer, segmentsLeft}
+use Rattle.tables.specs.Tables.{entriesOf, segmentsAnswer, segmentsLeft}
 use Rattle.gather.specs.declared.Gatherer.{Gatherer}
 use Rattle.gather.specs.Gather.{answered, kept, rowAnswer, rowTable, pageAnswer, pageTable}
 use Rattle.gather.specs.Records.{left, rowRecord, pageRecord}
@@ -45,7 +45,7 @@ bodyBytes w = getD (w .values) 1 0
 
 module _ (tag span : ℕ) (body : List ℕ) where
   pub ranks-kept : (positions old : List ℕ) → Kept (written (ranksAnswer tag span body positions (length old))) (ranksAnswer tag span body positions (length old)) old (ranksLeft tag span body positions old)
-  unfolding ranksAnswer ranksLeft asked over
+  unfolding ranksAnswer ranksLeft asked
   ranks-kept positions old =
       together (λ (w : Answer) (new : List ℕ). Kept (written w) w old new) (accepts tag span body)
       (together (λ (w : Answer) (new : List ℕ). Kept (written w) w old new) (leb (length positions) (length old))
@@ -54,14 +54,14 @@ module _ (tag span : ℕ) (body : List ℕ) where
       ((λ h. refl), refl)
 
   pub walk-kept : (from : ℕ) (old : List ℕ) → Kept (written (walkAnswer tag span body from (length old))) (walkAnswer tag span body from (length old)) old (walkLeft tag span body from old)
-  unfolding walkAnswer walkLeft asked over
+  unfolding walkAnswer walkLeft asked
   walk-kept from old =
       together (λ (w : Answer) (new : List ℕ). Kept (written w) w old new) (accepts tag span body)
       ((λ h. absurd (h refl)), over-beyond (walkOf (names tag span body) from (length old)) old _ refl)
       ((λ h. refl), refl)
 
   pub segments-kept : (old : List Segment) → Kept (written (segmentsAnswer tag span body (length old))) (segmentsAnswer tag span body (length old)) old (segmentsLeft tag span body old)
-  unfolding segmentsAnswer segmentsLeft asked overTable
+  unfolding segmentsAnswer segmentsLeft asked
   segments-kept old =
       together (λ (w : Answer) (new : List Segment). Kept (written w) w old new) (accepts tag span body)
       (together (λ (w : Answer) (new : List Segment). Kept (written w) w old new) (leb (length (entriesOf tag body)) (length old))
@@ -132,7 +132,7 @@ module _ (start end : ℕ) (rows seeds : List ℕ) (limit : ℕ) (work out : Lis
       (either (eqb before 0))
 
   pub plan-kept : Kept (bodyBytes answer) answer out (planOut start end rows seeds limit (length work) out)
-  unfolding planOut planning.answered planOf plannedValues over
+  unfolding planOut planning.answered planOf plannedValues
   plan-kept =
       let number = planNumber start end rows seeds limit (length work) (length out) in
       by-test (λ (w : Answer) (new : List ℕ). Kept (bodyBytes w) w out new) (eqb number 0)
@@ -170,7 +170,7 @@ module _ (start end : ℕ) (rows seeds : List ℕ) (limit : ℕ) (work out : Lis
 module _ (rows limit : ℕ) where
   pub walk-deletions-kept : (s : Section) (body : List ℕ) (from : ℕ) (old : List ℕ)
       → Kept (written (section.walkAnswer rows limit s body from (length old))) (section.walkAnswer rows limit s body from (length old)) old (section.walkLeft rows limit s body from old)
-  unfolding section.walkAnswer section.walkLeft planning.answered over
+  unfolding section.walkAnswer section.walkLeft planning.answered
   walk-deletions-kept s body from old =
       together (λ (w : Answer) (new : List ℕ). Kept (written w) w old new) (eqb (section.sectionNumber rows limit s body) 0)
       ((λ h. absurd (h refl)), over-beyond (walkOf (section.deletedOf rows s body) from (length old)) old _ refl)

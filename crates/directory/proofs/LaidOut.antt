@@ -74,6 +74,10 @@ module _ (s : Plan) (n i : ℕ) (m : Small s n) (l : i < n) where
 
 -- ---- the whole directory
 
+-- entry i of n, by the plan: ordinal and offset are running sums
+abbrev pub entryFor : Plan → ℕ → ℕ → Segment
+entryFor s n i = record { start = s .start i; span = s .span i; count = s .count i; ordinal = total (s .count) i; offset = directorySize n + total (s .size) i; length = s .size i; tag = s .tag i }
+
 pub length-entries : (s : Plan) (n i : ℕ) → length (flat (entryLayout s n) i) ≡ 16 * i
 length-entries s n i = flat-total (entryLayout s n) (λ (_ : ℕ). 16) i (λ j l. length-entry s n j) ∙ total-constant 16 i
 
@@ -102,10 +106,9 @@ module _ (s : Plan) (n : ℕ) (ys : List ℕ) where
       ∙ le-second w (flat (entryLayout s n) i) (entryLayout s n i ++ rest) (16 * i) off (length-entries s n i)
       ∙ le-first w (entryLayout s n i) rest off (omega (arith, length-entry s n i)))
 
-  -- entry i reads back, with ordinal and offset as running sums
+  -- entry i reads back
   pub entry-laid : Small s n → (i : ℕ) → i < n
-      → entryOf (directoryLayout s n ++ ys) i
-      ≡ record { start = s .start i; span = s .span i; count = s .count i; ordinal = total (s .count) i; offset = directorySize n + total (s .size) i; length = s .size i; tag = s .tag i }
+      → entryOf (directoryLayout s n ++ ys) i ≡ entryFor s n i
   unfolding entryOf
   entry-laid m i l =
       rw (
@@ -134,7 +137,7 @@ pub record Sound (s : Plan) (span n : ℕ) : Type 0 where
 
 module _ (s : Plan) (n : ℕ) (ys : List ℕ) (m : Small s n) where
   -- a field of the entry that reads back
-  part-laid : (f : Segment → ℕ) (i : ℕ) → i < n → f (entryOf (directoryLayout s n ++ ys) i) ≡ f (record { start = s .start i; span = s .span i; count = s .count i; ordinal = total (s .count) i; offset = directorySize n + total (s .size) i; length = s .size i; tag = s .tag i })
+  part-laid : (f : Segment → ℕ) (i : ℕ) → i < n → f (entryOf (directoryLayout s n ++ ys) i) ≡ f (entryFor s n i)
   part-laid f i l = ap f (entry-laid s n ys m i l)
 
   rows-laid : (i : ℕ) → i ≤ n → rowsBefore (directoryLayout s n ++ ys) i ≡ total (s .count) i

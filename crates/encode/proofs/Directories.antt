@@ -14,17 +14,12 @@ use Rattle.model.specs.Tests.{flat, total}
 use Rattle.model.proofs.Tests.{flat-step}
 use Rattle.directory.specs.Directory.{directorySize}
 use Rattle.directory.specs.Layout.{Plan, entryLayout, directoryLayout}
-use Rattle.directory.specs.declared.Segment.{Segment}
-use Rattle.directory.proofs.LaidOut.{length-entry, length-entries}
+use Rattle.directory.proofs.LaidOut.{entryFor, length-entry, length-entries}
 use Rattle.emit.specs.Written.{Written}
 use Rattle.emit.proofs.Storing.{sets-comm}
 use Rattle.encode.specs.Headers.{entryBytes}
 use Rattle.encode.specs.Segments.{Placed}
 use Rattle.encode.proofs.Headers.{tag-field}
-
--- entry i of n, by the plan
-abbrev pub entryFor : Plan → ℕ → ℕ → Segment
-entryFor s n i = record { start = s .start i; span = s .span i; count = s .count i; ordinal = total (s .count) i; offset = directorySize n + total (s .size) i; length = s .size i; tag = s .tag i }
 
 entry-bytes : (s : Plan) (n i : ℕ) → s .tag i < 256 → entryBytes (entryFor s n i) ≡ entryLayout s n i
 unfolding entryBytes entryLayout

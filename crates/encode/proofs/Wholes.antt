@@ -1,17 +1,18 @@
 -- A whole body is a header and a local layout: over the whole span, or from the first row to the last.
 -- Assumes nothing.
 use mathlib.Core.Path.{_≡_, refl, ap, _∙_}
-use mathlib.Core.Logic.{_⊎_, ⊎-elim}
+use mathlib.Core.Logic.{⊎-elim}
 use mathlib.Core.List.{List, [], _∷_, _++_}
-use Prim.Native.Nat.{ℕ, zero, suc, _+_, _-_, _<_, _≤_}
-use native.Mathlib.Nat.{eq-or-lt-of-le}
+use Prim.Native.Nat.{ℕ, _+_, _-_, _<_, _≤_}
 use native.Mathlib.Omega.{arith}
 use lib.ListN.{length, getD, length-append}
 use borrow.Author.Tests.{ne-eqb}
 use Rattle.model.specs.Tests.{pick}
-use Rattle.model.specs.Lists.{Rising, runsOf, positionsOf}
-use Rattle.model.proofs.Rising.{rising-strict, rising-tests, rising-from, rising-below}
+use Rattle.model.specs.Lists.{runsOf, positionsOf}
+use Rattle.model.proofs.Tests.{order}
+use Rattle.model.proofs.Rising.{rising-from, rising-below, rising-first}
 use Rattle.forms.specs.Forms.{localLayout}
+use Rattle.forms.proofs.Tags.{Other, other-ne}
 use Rattle.single.specs.Layout.{firstOf, extentOf, plainLayout, trimmedLayout}
 use Rattle.single.proofs.Laws.{tag-cases}
 use Rattle.cost.specs.Rows.{Covered}
@@ -23,18 +24,17 @@ use Rattle.encode.proofs.Headers.{header-low, header-high, length-bitma
 
 -- ---- over the whole span
 
-other-cut : (span : ℕ) (rows : List ℕ) (n runs tag : ℕ) → (tag ≡ 0) ⊎ (8 < tag) → plainLayout tag span rows ≡ plainHeader tag (length rows) (length (runsOf rows)) ++ localLayout tag span rows
+other-cut : (span : ℕ) (rows : List ℕ) (tag : ℕ) → Other 8 tag → plainLayout tag span rows ≡ plainHeader tag (length rows) (length (runsOf rows)) ++ localLayout tag span rows
 unfolding plainLayout pick
-other-cut span rows n runs tag o =
-    let no : (k : ℕ) → 4 ≤ k → k ≤ 7 → tag ≡ k → ⊥ = λ k a b e. ⊎-elim (λ z. omega arith) (λ g. omega arith) o in
-    let head : plainHeader tag (length rows) (length (runsOf rows)) ≡ [] = ⊎-elim (λ z. header-low tag _ _ (omega arith)) (λ g. header-high tag _ _ (omega arith)) o in
-    rw (head, ne-eqb tag 4 (no 4 (omega arith) (omega arith)), ne-eqb tag 5 (no 5 (omega arith) (omega arith)), ne-eqb tag 6 (no 6 (omega arith) (omega arith)), ne-eqb tag 7 (no 7 (omega arith) (omega arith)))
+other-cut span rows tag o =
+    let head : plainHeader tag (length rows) (length (runsOf rows)) ≡ [] = ⊎-elim (λ h. header-high tag _ _ (omega (arith, o h))) (λ z. header-low tag _ _ (omega arith)) (order 0 tag) in
+    rw (head, other-ne o 4 (omega arith) (omega arith), other-ne o 5 (omega arith) (omega arith), other-ne o 6 (omega arith) (omega arith), other-ne o 7 (omega arith) (omega arith))
 
 pub plain-cut : (tag span : ℕ) (rows : List ℕ) → plainLayout tag span rows ≡ plainHeader tag (length rows) (length (runsOf rows)) ++ localLayout tag span rows
 unfolding plainLayout plainHeader pick
 plain-cut tag span rows =
     tag-cases (λ (t : ℕ). plainLayout t span rows ≡ plainHeader t (length rows) (length (runsOf rows)) ++ localLayout t span rows)
-    refl refl refl refl refl refl refl refl (λ t o. other-cut span rows 0 0 t o) tag
+    refl refl refl refl refl refl refl refl (other-cut span rows) tag
 
 pub plain-own : (tag span start : ℕ) (rows : List ℕ) {runs : ℕ} → runs ≡ length (runsOf (positionsOf start rows)) → plainLayout tag span (positionsOf start rows) ≡ plainHeader tag (length rows) runs ++ localLayout tag span (positionsOf start rows)
 plain-own tag span start rows e = plain-cut tag span (positionsOf start rows) ∙ rw (length-positions, e)
@@ -72,20 +72,6 @@ positions-again start c (x ∷ xs) h =
     let e : x - start - (c - start) ≡ x - c = omega arith in
     rw (e, positions-again start c xs h)
 
--- a rising list is between its ends
-module _ {a b : ℕ} {xs : List ℕ} (r : Rising a b xs) (some : 1 ≤ length xs) where
-  from-first : (i : ℕ) → i < length xs → getD xs 0 0 ≤ getD xs i 0
-  from-first zero l = omega arith
-  from-first (suc i) l = omega (arith, rising-strict r 0 (suc i) (omega arith) l)
-
-  to-last : (i : ℕ) → i < length xs → getD xs i 0 ≤ getD xs (length xs - 1) 0
-  to-last i l =
-      let m : i ≤ length xs - 1 = omega arith in
-      ⊎-elim (λ q. omega (arith, ap (λ (k : ℕ). getD xs k 0) q)) (λ u. omega (arith, rising-strict r i (length xs - 1) u (omega arith))) (eq-or-lt-of-le m)
-
-  pub rising-ends : {n : ℕ} → n ≡ getD xs (length xs - 1) 0 - getD xs 0 0 + 1 → Rising (getD xs 0 0) (getD xs 0 0 + n) xs
-  rising-ends e = rising-tests (getD xs 0 0) _ xs from-first (λ i l. omega (arith, e, from-first i l, to-last i l)) (λ i l. rising-strict r i (suc i) (omega arith) l)
-
 module _ (start : ℕ) (rows : List ℕ) (k : Covered start rows) where
   abbrev P : List ℕ
   P = positionsOf start rows
@@ -94,7 +80,7 @@ module _ (start : ℕ) (rows : List ℕ) (k : Covered start rows) where
   pub ends-in : (start ≤ getD rows 0 0) × (getD rows 0 0 ≤ getD rows (length rows - 1) 0) × (getD rows (length rows - 1) 0 < start + 4294967295)
   ends-in =
       let s = k .some in
-      (rising-from (k .rising) 0 (omega arith), from-first (k .rising) s (length rows - 1) (omega arith), rising-below (k .rising) (length rows - 1) (omega arith))
+      (rising-from (k .rising) 0 (omega arith), rising-first (k .rising) (length rows - 1) (omega arith), rising-below (k .rising) (length rows - 1) (omega arith))
 
   pub trimmed-first : firstOf P ≡ getD rows 0 0 - start
   unfolding firstOf

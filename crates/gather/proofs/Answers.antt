@@ -4,8 +4,9 @@ use mathlib.Core.Path.{_≡_, ap}
 use mathlib.Core.List.{List}
 use Prim.Native.Nat.{ℕ}
 use native.Mathlib.Omega.{arith}
-use lib.ListN.{length, getD}
+use lib.ListN.{getD}
 use Rattle.model.specs.Answers.{Answer}
+use Rattle.model.proofs.Answers.{same-number, same-size}
 use Rattle.gather.specs.declared.Gatherer.{Gatherer}
 use Rattle.gather.specs.declared.Gathered.{Gathered}
 use Rattle.gather.specs.declared.Gathered.the-variants.{Record, Refused}
@@ -18,6 +19,6 @@ ofValues vs = record { entries = getD vs 0 0; rows = getD vs 1 0; first = getD v
 pub answers-same : (a b : Gathered) → answerOf a ≡ answerOf b → a ≡ b
 unfolding answerOf
 answers-same (Record g) (Record h) e = ap (λ (x : Answer). Record (ofValues (x .values))) e
-answers-same (Record g) (Refused k) e = absurd (omega (arith, ap (λ (x : Answer). length (x .values)) e))
-answers-same (Refused k) (Record h) e = absurd (omega (arith, ap (λ (x : Answer). length (x .values)) e))
-answers-same (Refused k) (Refused m) e = ap Refused (ap (λ (x : Answer). x .number) e)
+answers-same (Record g) (Refused k) e = absurd (omega (arith, same-size e))
+answers-same (Refused k) (Record h) e = absurd (omega (arith, same-size e))
+answers-same (Refused k) (Refused m) e = ap Refused (same-number e)

@@ -13,6 +13,7 @@ use borrow.Author.Tests.{ltb-true, ne-eqb}
 use Rattle.model.specs.Tests.{both, all}
 use Rattle.model.specs.Answers.{Answer, accepted}
 use Rattle.model.proofs.Tests.{either, pick-false, both-true, both-left, both-right, all-at, all-from}
+use Rattle.model.proofs.Answers.{same-number}
 use Rattle.gather.specs.declared.Gatherer.{Gatherer}
 use Rattle.gather.specs.Gather.{valuesOf, answered, above, joins, added, addedTo, rowNumber, rowAnswer, rowTable, upAt, rises, firstOf, oneSeed, addedAll, addedAllTo, paged, someNumber, pageAnswer, pageTable, Counted}
 use Rattle.gather.proofs.Answers.{ofValues}
@@ -129,7 +130,7 @@ in-turn r (s ∷ rs) g t k =
 accepted-is : (n : ℕ) (g h : Gatherer) → answered n g ≡ accepted (valuesOf h) → (n ≡ 0) × (g ≡ h)
 unfolding answered
 accepted-is zero g h e = (refl, ap (λ (a : Answer). ofValues (a .values)) e)
-accepted-is (suc n) g h e = absurd (omega (arith, ap (λ (a : Answer). a .number) e))
+accepted-is (suc n) g h e = absurd (omega (arith, same-number e))
 
 module _ (g h : Gatherer) (t : List ℕ) (r : ℕ) (e : rowAnswer g (length t) r ≡ accepted (valuesOf h)) where
   row-went : (rowNumber g (length t) r ≡ 0) × (added g r ≡ h)

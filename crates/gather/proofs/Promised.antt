@@ -6,6 +6,7 @@ use Prim.Native.Nat.{ℕ}
 use native.Mathlib.Omega.{arith}
 use lib.ListN.{length}
 use Rattle.model.specs.Answers.{Answer}
+use Rattle.model.proofs.Answers.{same-number, same-size}
 use Rattle.gather.specs.declared.Gatherer.{Gatherer}
 use Rattle.gather.specs.declared.lent.Added.{Added}
 use Rattle.gather.specs.declared.lent.Added.the-variants.{Done, Refused}
@@ -29,9 +30,9 @@ Said w a g t = (addedAnswer a g ≡ w .0) × ((g ≡ w .1 .0) × (t ≡ w .1 .1)
 pub added-same : (a b : Added) (g h : Gatherer) → addedAnswer a g ≡ addedAnswer b h → a ≡ b
 unfolding addedAnswer
 added-same Done Done g h e = refl
-added-same Done (Refused m) g h e = absurd (omega (arith, ap (λ (x : Answer). length (x .values)) e))
-added-same (Refused k) Done g h e = absurd (omega (arith, ap (λ (x : Answer). length (x .values)) e))
-added-same (Refused k) (Refused m) g h e = ap Refused (ap (λ (x : Answer). x .number) e)
+added-same Done (Refused m) g h e = absurd (omega (arith, same-size e))
+added-same (Refused k) Done g h e = absurd (omega (arith, same-size e))
+added-same (Refused k) (Refused m) g h e = ap Refused (same-number e)
 
 -- so the contracts state one result
 pub results-same : (w : Wanted) (a b : Added) (g h : Gatherer) (t u : List ℕ) → Said w a g t → Said w b h u → (a ≡ b) × ((g ≡ h) × (t ≡ u))

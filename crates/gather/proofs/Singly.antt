@@ -4,10 +4,9 @@ use mathlib.Core.Path.{_≡_, refl, sym, _∙_}
 use mathlib.Core.List.{List, [], _∷_}
 use Prim.Native.Nat.{ℕ, suc, _+_, _-_, _<_, _≤_}
 use native.Mathlib.Nat.{sub-zero}
-use native.Mathlib.Numerals.{add-one}
 use native.Mathlib.Omega.{arith}
 use lib.ListN.{length, getD, drop, drop-of-length-le, length-set}
-use lib.Seq.{drop-cons}
+use Rattle.model.proofs.Taking.{drop-step}
 use Rattle.gather.specs.declared.Gatherer.{Gatherer}
 use Rattle.gather.specs.Gather.{added, addedTo, addedAll, addedAllTo, Counted}
 use Rattle.gather.proofs.Admitted.{after, after-counted}
@@ -15,16 +14,13 @@ use Rattle.gather.proofs.Admitted.{after, after-counted}
 -- ---- one row more, and the end
 
 module _ (rows : List ℕ) (i : ℕ) (h : i < length rows) where
-  pub rest-step : drop i rows ≡ getD rows i 0 ∷ drop (i + 1) rows
-  rest-step = rw (add-one, drop-cons rows i 0)
-
   pub all-step : (g : Gatherer) → addedAll g (drop i rows) ≡ addedAll (added g (getD rows i 0)) (drop (i + 1) rows)
   unfolding addedAll
-  all-step g = rw rest-step
+  all-step g = rw (drop-step rows i 0 h)
 
   pub all-to-step : (t : List ℕ) (g : Gatherer) → addedAllTo t g (drop i rows) ≡ addedAllTo (addedTo t g (getD rows i 0)) (added g (getD rows i 0)) (drop (i + 1) rows)
   unfolding addedAllTo
-  all-to-step t g = rw rest-step
+  all-to-step t g = rw (drop-step rows i 0 h)
 
 module _ (rows : List ℕ) (i : ℕ) (h : length rows ≤ i) where
   pub all-end : (g : Gatherer) → addedAll g (drop i rows) ≡ g

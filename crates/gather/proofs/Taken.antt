@@ -3,8 +3,8 @@
 use mathlib.Core.Path.{_≡_, refl, ap}
 use Prim.Native.Nat.{ℕ, zero, suc}
 use native.Mathlib.Omega.{arith}
-use lib.ListN.{length}
 use Rattle.model.specs.Answers.{Answer}
+use Rattle.model.proofs.Answers.{same-number, same-size}
 use Rattle.gather.specs.declared.Gatherer.{Gatherer}
 use Rattle.gather.specs.declared.Gathered.{Gathered}
 use Rattle.gather.specs.declared.Gathered.the-variants.{Record, Refused}
@@ -22,6 +22,6 @@ taken-answer old (Refused k) = refl
 pub taken-record : (old new : Gatherer) (n : ℕ) (c : Gathered) → answerOf c ≡ answered n new → stepOf old c .after ≡ left n old new
 unfolding answerOf answered left stepOf
 taken-record old new zero (Record g) e = ap (λ (x : Answer). ofValues (x .values)) e
-taken-record old new (suc n) (Record g) e = absurd (omega (arith, ap (λ (x : Answer). x .number) e))
-taken-record old new zero (Refused k) e = absurd (omega (arith, ap (λ (x : Answer). length (x .values)) e))
+taken-record old new (suc n) (Record g) e = absurd (omega (arith, same-number e))
+taken-record old new zero (Refused k) e = absurd (omega (arith, same-size e))
 taken-record old new (suc n) (Refused k) e = refl

@@ -1,13 +1,12 @@
 -- Rows gathered singly from nothing: the table holds the windows that planning takes where no seeds are given.
 -- Assumes nothing.
 use mathlib.Core.Path.{_≡_, refl, sym, ap, _∙_}
-use mathlib.Core.Bool.{Bool, true, false}
+use mathlib.Core.Bool.{true, false}
 use mathlib.Core.Logic.{⊎-elim}
 use mathlib.Core.List.{List, [], _∷_, _++_}
 use Prim.Native.Nat.{ℕ, zero, suc, _+_, _-_, _/_, _<_, _≤_}
 use native.Mathlib.Numerals.{add-one}
 use native.Mathlib.Omega.{arith}
-use lib.Dec.{eqb}
 use lib.ListN.{length, getD, set, take, length-append}
 use lib.Seq.{take-suc, take-all, set-set}
 use borrow.Author.Tests.{eq-eqb, ne-eqb, eqb-true}
@@ -16,7 +15,7 @@ use Rattle.model.proofs.Tests.{either, pick-true, pick-false}
 use Rattle.model.proofs.Writing.{over-next}
 use Rattle.gather.specs.declared.Gatherer.{Gatherer}
 use Rattle.gather.specs.Gather.{joins, added, addedTo, addedAll, addedAllTo}
-use Rattle.gather.specs.Seeds.{cuts, windows}
+use Rattle.gather.specs.Seeds.{sameAt, cuts, windows}
 use Rattle.gather.proofs.Admitted.{begun, added-joins, added-begins}
 
 -- ---- rows after rows
@@ -38,15 +37,13 @@ over-again front xs u v h =
     ∙ set-set (over front xs) (length front) u v
     ∙ over-next front xs (length front) v refl h
 
--- whether the next row stands in the same window
-abbrev sameAt : List ℕ → ℕ → Bool
-sameAt rows i = eqb (getD rows (suc i) 0 / 4096) (getD rows i 0 / 4096)
+-- ---- the ends of the windows, row by row
 
-cuts-same : (rows : List ℕ) (i : ℕ) → sameAt rows i ≡ true → cuts rows (suc i) ≡ cuts rows i
+pub cuts-same : (rows : List ℕ) (i : ℕ) → sameAt rows i ≡ true → cuts rows (suc i) ≡ cuts rows i
 unfolding cuts
 cuts-same rows i e = pick-true _ _ e
 
-cuts-more : (rows : List ℕ) (i : ℕ) → sameAt rows i ≡ false → cuts rows (suc i) ≡ cuts rows i ++ (suc i ∷ [])
+pub cuts-more : (rows : List ℕ) (i : ℕ) → sameAt rows i ≡ false → cuts rows (suc i) ≡ cuts rows i ++ (suc i ∷ [])
 unfolding cuts
 cuts-more rows i e = pick-false _ _ e
 
@@ -95,11 +92,11 @@ module _ (rows t : List ℕ) (none : Gatherer) (empty : none .rows ≡ 0) (clear
 
   -- the row's test against the window of the seed's first row is the test against the row before it
   same-window : (i : ℕ) → Windowed i → joins (held i) (getD rows (suc i) 0) ≡ sameAt rows i
-  unfolding joins
+  unfolding joins sameAt
   same-window i w = let e = w .total in pick-false _ _ (ne-eqb (held i .rows) 0 (λ z. omega arith)) ∙ rw (w .window)
 
   windowed-next : (i : ℕ) → suc i < length rows → length (cuts rows (suc i)) < length t → Windowed i → Windowed (suc i)
-  unfolding addedTo
+  unfolding addedTo sameAt
   windowed-next i h room w =
       ⊎-elim
       (λ e.

@@ -20,10 +20,14 @@ seedAt rows ends i = both (ltb (startOf ends i) (getD ends i 0)) (leb (getD rows
 unfoldable pub seedsFit : List ℕ → List ℕ → Bool
 seedsFit rows ends = both (all (seedAt rows ends) (length ends)) (eqb (getD ends (length ends - 1) 0) (length rows))
 
--- the ends inside the first n + 1 rows: wherever the next row stands in another 4,096-window of absolute row number
+-- row i and the next stand in the same 4,096-window of absolute row number
+unfoldable pub sameAt : List ℕ → ℕ → Bool
+sameAt rows i = eqb (getD rows (suc i) 0 / 4096) (getD rows i 0 / 4096)
+
+-- the ends inside the first n + 1 rows: wherever the next row stands in another window
 unfoldable pub cuts : List ℕ → ℕ → List ℕ
 cuts rows zero = []
-cuts rows (suc i) = pick (eqb (getD rows (suc i) 0 / 4096) (getD rows i 0 / 4096)) (cuts rows i) (cuts rows i ++ (suc i ∷ []))
+cuts rows (suc i) = pick (sameAt rows i) (cuts rows i) (cuts rows i ++ (suc i ∷ []))
 
 -- the ends of the windows of rows, one or more
 unfoldable pub windows : List ℕ → List ℕ

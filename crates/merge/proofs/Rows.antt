@@ -2,12 +2,13 @@
 -- Assumes nothing.
 use mathlib.Core.Path.{_≡_, sym, _∙_}
 use mathlib.Core.Logic.{⊎-elim}
-use mathlib.Core.List.{List, [], _∷_, _++_}
+use mathlib.Core.List.{List, _++_}
 use Prim.Native.Nat.{ℕ, zero, suc, _+_, _-_, _<_, _≤_}
 use native.Mathlib.Omega.{arith}
 use lib.ListN.{length}
-use Rattle.model.specs.Lists.{Rising, none, more}
+use Rattle.model.specs.Lists.{Rising}
 use Rattle.model.proofs.Tests.{same-or-not}
+use Rattle.model.proofs.Rising.{rising-split}
 use Rattle.cost.specs.declared.Stats.{Stats}
 use Rattle.cost.specs.Statistics.{statsOf}
 use Rattle.cost.proofs.Joining.{stats-append, stats-sound, stats-neighbours}
@@ -15,13 +16,6 @@ use Rattle.merge.specs.Rule.{merged, offers, cutsFrom}
 use Rattle.merge.specs.Pairs.{totalFrom, segmentOf, admitted, saving, Seeds, rowsAdmitted, rowsSaving}
 use Rattle.merge.specs.Contracts.{cutsOf, offersOf}
 use Rattle.merge.proofs.Same.{merged-same, offers-same}
-
--- a rising list in two parts
-rising-split : {a b : ℕ} (xs ys : List ℕ) → a ≤ b → Rising a b (xs ++ ys) → (m : ℕ) × (a ≤ m) × (m ≤ b) × Rising a m xs × Rising m b ys
-rising-split {a} [] ys h r = (a, omega arith, h, none, r)
-rising-split (x ∷ xs) ys h (more p q r) =
-    let o = rising-split xs ys q r in
-    (o .0, omega (arith, o .1), o .2, more p (o .1) (o .3), o .4)
 
 -- `rows l m` are the rows of the seeds from the cut l to the cut m, and f i are the statistics of seed i
 module _ (n : ℕ) (rows : ℕ → ℕ → List ℕ) (some : (l m : ℕ) → l < m → m ≤ n → 1 ≤ length (rows l m))
@@ -63,7 +57,7 @@ module _ (n : ℕ) (rows : ℕ → ℕ → List ℕ) (some : (l m : ℕ) → l <
     from-cut : (l : ℕ) → l < n → (a : ℕ) × (a ≤ b) × Rising a b (rows l n)
     from-cut l h = ⊎-elim
         (λ e. rw e (0, omega arith, rising))
-        (λ ne. let o = rising-split (rows 0 l) (rows l n) (omega arith) (rw (cut 0 l n (omega arith) h (omega arith)) at rising) in (o .0, o .2, o .4))
+        (λ ne. let o = rising-split (rows 0 l) (rows l n) (omega arith) (rw (cut 0 l n (omega arith) h (omega arith)) at rising) in (o .mid, o .high, o .back))
         (same-or-not l 0)
 
     window : (l r : ℕ) → l < r → r ≤ n → (a : ℕ) × (c : ℕ) × (a ≤ c) × (c ≤ b) × Rising a c (rows l r)
@@ -71,7 +65,7 @@ module _ (n : ℕ) (rows : ℕ → ℕ → List ℕ) (some : (l m : ℕ) → l <
         let o = from-cut l (omega arith) in
         ⊎-elim
         (λ e. rw e (o .0, b, o .1, omega arith, o .2))
-        (λ ne. let y = rising-split (rows l r) (rows r n) (o .1) (rw (cut l r n p (omega arith) (omega arith)) at (o .2)) in (o .0, y .0, y .1, y .2, y .3))
+        (λ ne. let y = rising-split (rows l r) (rows r n) (o .1) (rw (cut l r n p (omega arith) (omega arith)) at (o .2)) in (o .0, y .mid, y .low, y .high, y .front))
         (same-or-not r n)
 
     pub rows-seeds : Seeds f n
@@ -82,6 +76,6 @@ module _ (n : ℕ) (rows : ℕ → ℕ → List ℕ) (some : (l m : ℕ) → l <
       apart = λ i h.
           let o = window i (suc (suc i)) (omega arith) (omega arith) in
           let y = rising-split (rows i (suc i)) (rows (suc i) (suc (suc i))) (o .2) (rw (cut i (suc i) (suc (suc i)) (omega arith) (omega arith) (omega arith)) at (o .4)) in
-          let k = stats-neighbours (y .3) (y .4) (some i (suc i) (omega arith) (omega arith)) (some (suc i) (suc (suc i)) (omega arith) (omega arith)) (y .2) (omega (arith, o .3)) in
+          let k = stats-neighbours (y .front) (y .back) (some i (suc i) (omega arith) (omega arith)) (some (suc i) (suc (suc i)) (omega arith) (omega arith)) (y .high) (omega (arith, o .3)) in
           rw (seeds i (omega arith), seeds (suc i) h) (k .apart);
     }

@@ -1,18 +1,25 @@
 -- The answers of a check: a test that failed, or all that passed and the one that is left. What an accepted count is.
 -- Assumes nothing.
-use mathlib.Core.Path.{_≡_, refl}
-use mathlib.Core.Bool.{Bool, true, false, _&&_, _||_}
-use Prim.Native.Nat.{ℕ, _<_, _≤_}
+use mathlib.Core.Path.{_≡_, refl, sym, _∙_}
+use mathlib.Core.Bool.{Bool, true, false, not, _&&_, _||_}
+use Prim.Native.Nat.{ℕ, _+_, _<_, _≤_}
 use native.Mathlib.Omega.{arith}
-use borrow.Author.Tests.{le-leb, lt-leb, leb-true}
-use Rattle.model.specs.Tests.{both, pick}
-use Rattle.model.proofs.Tests.{both-true, both-left, both-right, both-first, both-second}
+use borrow.Author.Tests.{le-leb, lt-leb, leb-true, not-false, not-true}
+use Rattle.model.specs.Tests.{both, pick, all}
+use Rattle.model.proofs.Tests.{both-true, both-left, both-right, both-first, both-second, all-step}
 use Rattle.model.specs.Lists.{counted}
 
 -- a test that passed is left out
 pub both-pass : {a b r : Bool} → a ≡ true → r ≡ b → r ≡ both a b
 unfolding both
 both-pass p q = rw p q
+
+-- a test by its answer, where the code asks for the opposite
+pub met : {t u : Bool} → t ≡ u → not t ≡ false → u ≡ true
+met {t} e f = sym e ∙ not-false t f
+
+pub missed : {t u : Bool} → t ≡ u → not t ≡ true → u ≡ false
+missed {t} e f = sym e ∙ not-true t f
 
 -- the code's conjunction
 pub and-both : (a b : Bool) → a && b ≡ both a b
@@ -25,6 +32,10 @@ pub or-pick : (a b : Bool) → (a || b) ≡ pick a true b
 unfolding pick
 or-pick true b = refl
 or-pick false b = refl
+
+-- one turn of a loop that keeps a flag
+pub flag-step : (t : ℕ → Bool) (i : ℕ) {ok u : Bool} → ok ≡ all t i → u ≡ t i → (ok && u) ≡ all t (i + 1)
+flag-step t i p q = rw (p, q) (and-both _ _ ∙ sym (all-step t i))
 
 -- a test that holds anyway
 pub both-yes : (a : Bool) → both a true ≡ a

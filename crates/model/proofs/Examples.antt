@@ -45,6 +45,6 @@ counted : shift 100 (range 0 5) ≡ range 100 5
 unfolding shift range
 counted = refl
 
-written : over (7 ∷ 8 ∷ []) (1 ∷ 2 ∷ 3 ∷ 4 ∷ []) ≡ 7 ∷ 8 ∷ 3 ∷ 4 ∷ []
+written : over {A = ℕ} (7 ∷ 8 ∷ []) (1 ∷ 2 ∷ 3 ∷ 4 ∷ []) ≡ 7 ∷ 8 ∷ 3 ∷ 4 ∷ []
 unfolding over
 written = refl

@@ -1,16 +1,15 @@
--- Rising lists: their bounds, their parts and their elements by index.
+-- Rising lists: their bounds, their parts, their elements by index and their ends.
 -- Assumes nothing.
+use mathlib.Core.Path.{_≡_, ap}
+use mathlib.Core.Logic.{⊎-elim}
 use mathlib.Core.List.{List, [], _∷_, _++_}
 use Prim.Native.Nat.{ℕ, zero, suc, _+_, _-_, _<_, _≤_}
-use native.Mathlib.Nat.{le-trans}
+use native.Mathlib.Nat.{le-trans, eq-or-lt-of-le}
 use native.Mathlib.Omega.{arith}
 use lib.ListN.{length, getD, take, drop}
 use Rattle.model.specs.Lists.{Rising, none, more}
 
 -- ---- taking apart and widening
-
-pub rising-low : {a b x : ℕ} {xs : List ℕ} → Rising a b (x ∷ xs) → a ≤ x
-rising-low (more l h r) = l
 
 pub rising-high : {a b x : ℕ} {xs : List ℕ} → Rising a b (x ∷ xs) → x < b
 rising-high (more l h r) = h
@@ -25,6 +24,20 @@ rising-wider l h (more p q r) = more (le-trans l p) (le-trans q h) (rising-wider
 pub rising-append : {a m b : ℕ} {xs ys : List ℕ} → a ≤ m → m ≤ b → Rising a m xs → Rising m b ys → Rising a b (xs ++ ys)
 rising-append l h none s = rising-wider l (omega arith) s
 rising-append l h (more p q r) s = more p (le-trans q h) (rising-append q h r s)
+
+-- the two parts of a rising list meet at mid
+pub record Parted (a b : ℕ) (xs ys : List ℕ) : Type 0 where
+  pub mid : ℕ
+  pub low : a ≤ mid
+  pub high : mid ≤ b
+  pub front : Rising a mid xs
+  pub back : Rising mid b ys
+
+pub rising-split : {a b : ℕ} (xs ys : List ℕ) → a ≤ b → Rising a b (xs ++ ys) → Parted a b xs ys
+rising-split {a} [] ys h r = record { mid = a; low = omega arith; high = h; front = none; back = r }
+rising-split (x ∷ xs) ys h (more p q r) =
+    let o = rising-split xs ys q r in
+    record { mid = o .mid; low = omega (arith, o .low); high = o .high; front = more p (o .low) (o .front); back = o .back }
 
 pub rising-take : {a b : ℕ} {xs : List ℕ} (n : ℕ) → Rising a b xs → Rising a b (take n xs)
 rising-take zero r = none
@@ -80,3 +93,18 @@ rising-tests a b (x ∷ xs) f g h =
     climbing : (x : ℕ) (xs : List ℕ) → ((i : ℕ) → i < length xs → getD (x ∷ xs) i 0 < getD xs i 0) → (i : ℕ) → i < length xs → suc x ≤ getD xs i 0
     climbing x xs h zero l = h 0 l
     climbing x xs h (suc i) l = omega (arith, h (suc i) l, climbing x xs h i (omega arith))
+
+-- ---- between its ends: the first is the least, and the last the largest
+
+module _ {a b : ℕ} {xs : List ℕ} (r : Rising a b xs) where
+  pub rising-first : (i : ℕ) → i < length xs → getD xs 0 0 ≤ getD xs i 0
+  rising-first zero h = omega arith
+  rising-first (suc i) h = omega (arith, rising-strict r 0 (suc i) (omega arith) h)
+
+  rising-last : (i : ℕ) → i < length xs → getD xs i 0 ≤ getD xs (length xs - 1) 0
+  rising-last i h =
+      let m : i ≤ length xs - 1 = omega arith in
+      ⊎-elim (λ q. omega (arith, ap (λ (k : ℕ). getD xs k 0) q)) (λ u. omega (arith, rising-strict r i (length xs - 1) u (omega arith))) (eq-or-lt-of-le m)
+
+  pub rising-ends : {n : ℕ} → n ≡ getD xs (length xs - 1) 0 - getD xs 0 0 + 1 → Rising (getD xs 0 0) (getD xs 0 0 + n) xs
+  rising-ends e = rising-tests (getD xs 0 0) _ xs rising-first (λ i h. omega (arith, e, rising-first i h, rising-last i h)) (λ i h. rising-strict r i (suc i) (omega arith) h)

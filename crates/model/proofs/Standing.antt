@@ -5,7 +5,7 @@ use mathlib.Core.Bool.{true, false, false≢true}
 use mathlib.Core.Logic.{_⊎_, ⊎-elim}
 use mathlib.Core.List.{List, [], _∷_}
 use Prim.Native.Nat.{ℕ, zero, suc, _-_, _<_, _≤_}
-use native.Mathlib.Nat.{le-trans}
+use native.Mathlib.Nat.{le-trans, eq-or-lt-of-le}
 use native.Mathlib.Omega.{arith}
 use lib.ListN.{length, getD, drop-of-length-le}
 use lib.Seq.{drop-cons}
@@ -77,7 +77,7 @@ place-before r p h = rw (below-none r p (omega arith), has-outside r p (λ w. om
 pub below-at : {a b : ℕ} {xs : List ℕ} → Rising a b xs → (k : ℕ) → k < length xs → below xs (getD xs k 0) ≡ k
 below-at {a} {b} {xs} r k h =
     below-cut xs (getD xs k 0) k (omega arith) (λ i l. rising-strict r i k l h)
-    (λ i g l. ⊎-elim (λ q. rw (← q) (omega arith)) (λ m. omega (arith, rising-strict r k i m l)) (native.Mathlib.Nat.eq-or-lt-of-le g))
+    (λ i g l. ⊎-elim (λ q. rw (← q) (omega arith)) (λ m. omega (arith, rising-strict r k i m l)) (eq-or-lt-of-le g))
 
 pub has-at : (xs : List ℕ) (k : ℕ) → k < length xs → has xs (getD xs k 0) ≡ true
 has-at [] k h = absurd (omega arith)

@@ -2,11 +2,12 @@
 -- Assumes nothing.
 use mathlib.Core.Path.{_≡_, sym, ap, _∙_}
 use mathlib.Core.List.{List, [], _∷_, _++_, append-nil}
-use Prim.Native.Nat.{ℕ, zero, suc, _+_, _-_, min}
+use Prim.Native.Nat.{ℕ, zero, suc, _+_, _-_, _<_, min}
 use native.Mathlib.Nat.{add-zero, le-of-eq}
+use native.Mathlib.Numerals.{add-one}
 use native.Mathlib.Omega.{arith}
-use lib.ListN.{length, take, drop, length-take, length-drop, drop-of-length-le}
-use lib.Seq.{ext-getD, getD-take, getD-drop, drop-drop, drop-append-seam, take-all}
+use lib.ListN.{length, getD, take, drop, length-take, length-drop, drop-of-length-le}
+use lib.Seq.{ext-getD, getD-take, getD-drop, drop-cons, drop-drop, drop-append-seam, take-all}
 use borrow.Rule.Slice.PartMut.{putMid}
 use Rattle.model.specs.Tests.{tabulate}
 use Rattle.model.specs.Lists.{range, walkOf}
@@ -18,6 +19,10 @@ pub take-append : {A : Type 0} (m : ℕ) (us vs : List A) → take m (us ++ vs) 
 take-append zero us vs = let e : 0 - length us ≡ 0 = omega arith in rw e
 take-append (suc m) [] vs = let e : suc m - 0 ≡ suc m = omega arith in rw e
 take-append (suc m) (u ∷ us) vs = let e : suc m - suc (length us) ≡ m - length us = omega arith in rw (e, take-append m us vs)
+
+-- what is left from an index on is what stands there and the rest
+pub drop-step : {A : Type 0} (xs : List A) (i : ℕ) (d : A) → i < length xs → drop i xs ≡ getD xs i d ∷ drop (i + 1) xs
+drop-step xs i d h = rw (add-one i, drop-cons xs i d h)
 
 -- what is left behind the next ones
 pub drop-past : {A : Type 0} (xs vs rest : List A) (n : ℕ) → drop n xs ≡ vs ++ rest → drop (n + length vs) xs ≡ rest

@@ -56,28 +56,28 @@ moved-range {first} base s a (suc n) e =
 
 -- ---- the front written over
 
-pub over-none : (xs : List ℕ) → over [] xs ≡ xs
+pub over-none : {A : Type 0} (xs : List A) → over [] xs ≡ xs
 unfolding over
 over-none xs = refl
 
-pub over-length : (front xs : List ℕ) → length front ≤ length xs → length (over front xs) ≡ length xs
+pub over-length : {A : Type 0} (front xs : List A) → length front ≤ length xs → length (over front xs) ≡ length xs
 unfolding over
 over-length front xs h = simp (length-append, length-drop) (omega arith)
 
-pub over-take : (front xs : List ℕ) → take (length front) (over front xs) ≡ front
+pub over-take : {A : Type 0} (front xs : List A) → take (length front) (over front xs) ≡ front
 unfolding over
 over-take front xs = take-append-seam front (drop (length front) xs)
 
-pub over-drop : (front xs : List ℕ) → drop (length front) (over front xs) ≡ drop (length front) xs
+pub over-drop : {A : Type 0} (front xs : List A) → drop (length front) (over front xs) ≡ drop (length front) xs
 unfolding over
 over-drop front xs = drop-append-seam front (drop (length front) xs)
 
 -- one more is written behind the front
-pub over-next : (front xs : List ℕ) (i v : ℕ) → length front ≡ i → i < length xs → set (over front xs) i v ≡ over (front ++ (v ∷ [])) xs
+pub over-next : {A : Type 0} (front xs : List A) (i : ℕ) (v : A) → length front ≡ i → i < length xs → set (over front xs) i v ≡ over (front ++ (v ∷ [])) xs
 unfolding over
 over-next front xs i v e h =
     let s : length (front ++ (v ∷ [])) ≡ suc i = length-append front (v ∷ []) ∙ omega arith in
-    rw (s, e, drop-cons xs i 0 h) (set-at front (getD xs i 0) (drop (suc i) xs) v i e ∙ sym (append-assoc front (v ∷ []) (drop (suc i) xs)))
+    rw (s, e, drop-cons xs i v h) (set-at front (getD xs i v) (drop (suc i) xs) v i e ∙ sym (append-assoc front (v ∷ []) (drop (suc i) xs)))
 
 -- ---- what a loop has written so far
 
@@ -119,6 +119,10 @@ module _ {base at : ℕ} {rows before after : List ℕ} {done : ℕ} (f : Filled
   filled-whole h = rw (take-all done rows h) at (f .holds)
 
 -- ---- a walk
+
+-- that writes nothing
+pub walks-none : {rows : List ℕ} (xs : List ℕ) → rows ≡ [] → Walked rows xs xs 0
+walks-none xs e = rw e (record { written = sym (over-none xs); number = refl })
 
 -- the values ws were written from 0 on
 pub walked : (base : ℕ) (rows ws : List ℕ) {before out : List ℕ} {n : ℕ} → rows ≡ ws → out ≡ sets before 0 (moved base ws) → length ws ≡ n → n ≤ length before → Walked (moved base rows) before out n

@@ -17,7 +17,7 @@ abbrev pub refused : ℕ → Answer
 refused k = record { number = k; values = [] }
 
 -- a lent slice with the front written over, and the rest as it was
-unfoldable pub over : List ℕ → List ℕ → List ℕ
+unfoldable pub over : {A : Type 0} → List A → List A → List A
 over front xs = front ++ drop (length front) xs
 
 -- a walk left the positions in front of the lent slice and the rest as it was, and answered their number

@@ -13,15 +13,8 @@ use Rattle.model.specs.Tests.{pick, both}
 use Rattle.model.proofs.Tests.{either, pick-true, pick-false}
 use Rattle.planning.specs.Refusals.{endsOf, roomFits, earlyNumber}
 use Rattle.planning.proofs.Dividing.{early-divided}
-use Rattle.planning.specs.Planning.{plannedSegments, plannedOffers, plannedForm, plannedBody, lateNumber, plannedValues, answered, planNumber, planOf, planOut, planWork}
-
-answered-none : (k : ℕ) (values : List ℕ) → k ≡ 0 → answered k values ≡ accepted values
-unfolding answered
-answered-none k values e = pick-true _ _ (eq-eqb _ _ e)
-
-answered-some : (k : ℕ) (values : List ℕ) → (k ≡ 0 → ⊥) → answered k values ≡ refused k
-unfolding answered
-answered-some k values n = pick-false _ _ (ne-eqb _ _ n)
+use Rattle.planning.specs.Planning.{plannedSegments, plannedOffers, plannedForm, plannedBody, lateNumber, plannedValues, planNumber, planOf, planOut, planWork}
+use Rattle.planning.proofs.Accepted.{answered-none, answered-some}
 
 module _ (start end : ℕ) (rows seeds : List ℕ) (limit words : ℕ) where
   -- a refusal 1 to 5

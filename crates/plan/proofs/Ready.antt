@@ -1,6 +1,6 @@
 -- From the tests to a workspace that can be merged, and from there to a body that has room.
 -- Assumes nothing.
-use mathlib.Core.Path.{_≡_, _∙_}
+use mathlib.Core.Path.{_≡_, sym, _∙_}
 use mathlib.Core.List.{List}
 use Prim.Native.Nat.{ℕ, suc, _+_, _-_, _*_, _<_, _≤_}
 use native.Mathlib.Omega.{arith}
@@ -12,13 +12,14 @@ use Rattle.model.proofs.Rising.{rising-wider}
 use Rattle.model.specs.Answers.{accepted, over}
 use Rattle.model.proofs.Sets.{sets-front}
 use Rattle.merge.specs.Tables.{records, statAt}
+use Rattle.merge.proofs.Tables.{records-stat}
 use Rattle.planning.specs.Segments.{between, segmentsOf}
 use Rattle.planning.specs.Bodies.{formFor, layoutBy, bodyOf}
 use Rattle.planning.specs.Refusals.{endsOf}
 use Rattle.planning.specs.Planning.{plannedSegments, plannedOffers, plannedForm, plannedBody, lateNumber, plannedValues}
 use Rattle.planning.proofs.Dividing.{Divided}
 use Rattle.planning.proofs.Narrow.{Parts, nothing, front, divided-narrow, plan-parts}
-use Rattle.planning.proofs.Holding.{stat-records, narrow-seeds, narrow-offers, merged-held, held-slice}
+use Rattle.planning.proofs.Holding.{narrow-seeds, narrow-offers, merged-held, held-slice}
 use Rattle.planning.proofs.Linked.{plan-good}
 use Rattle.planning.proofs.Sound.{body-length, late-zero}
 use Rattle.assemble.specs.Emission.{Writable, Laid}
@@ -38,7 +39,7 @@ module _ {start end words : ℕ} {rows ends : List ℕ} (d : Divided start end r
       → Mergeable (positionsOf start rows) ends (end - start) (length ends) w
   whole-mergeable {w} room stats =
       let k = divided-narrow d in
-      let f : (i : ℕ) → i < length ends → statAt (records (length ends) w) i ≡ statsOf (between (positionsOf start rows) ends i (suc i)) = λ i h. stat-records (length ends) w i (omega arith) ∙ stats i h in
+      let f : (i : ℕ) → i < length ends → statAt (records (length ends) w) i ≡ statsOf (between (positionsOf start rows) ends i (suc i)) = λ i h. sym (records-stat (length ends) w i (omega arith)) ∙ stats i h in
       record {
         some = d .any-seeds;
         most = omega (arith, d .few-seeds);

@@ -74,23 +74,20 @@ module _ {start end : ℕ} {rows seeds : List ℕ} {words n span : ℕ} {w : Lis
 
   -- acceptance
   module _ (none : j ≡ 0) where
-    parts : Divided start end rows (endsOf rows seeds) words
-    parts = early-divided start end rows seeds words (c .early)
-
     met : lateNumber (d .form .bytes) limit (length out) ≡ 0
     met = sym (c .late) ∙ none
 
     pub body-writable : Writable n w start rows span (d .form) (d .sum) (length out)
-    body-writable = writable parts limit (length out) (c .spans) (c .few) (c .room) (c .decided) met
+    body-writable = writable (early-divided _ _ _ _ _ (c .early)) limit (length out) (c .spans) (c .few) (c .room) (c .decided) met
 
     pub body-small : (d .form .bytes ≤ 65535) × (d .sum .segments ≤ 65535) × (d .offers ≤ 4294967295)
-    body-small = (late-zero (d .form .bytes) limit (length out) met .1, segments-few parts (c .decided), omega (arith, c .decided .most, c .few))
+    body-small = (late-zero (d .form .bytes) limit (length out) met .1, segments-few (early-divided _ _ _ _ _ (c .early)) (c .decided), omega (arith, c .decided .most, c .few))
 
     pub body-planned : {answer : Answer} {left : List ℕ} {r : ℕ} → answer ≡ accepted (plannedValues (d .form) (d .sum .segments) (d .offers)) → Laid n w start rows span (d .form) out left r
         → (answer ≡ planOf start end rows seeds limit words (length out)) × (left ≡ planOut start end rows seeds limit words out)
     body-planned a l = (
       a ∙ decided-values start end rows seeds (c .spans) (c .decided) ∙ made-answer start end rows seeds limit words (c .early) out j number none,
-      decided-body start end rows seeds (c .spans) (c .decided) (roomy parts limit (length out) (c .spans) (c .decided) met .0) l ∙ made-out start end rows seeds limit words (c .early) out j number none,
+      decided-body start end rows seeds (c .spans) (c .decided) (roomy (early-divided _ _ _ _ _ (c .early)) limit (length out) (c .spans) (c .decided) met .0) l ∙ made-out start end rows seeds limit words (c .early) out j number none,
     )
 
 -- ---- the public calls: the words that the seeds need are lent, and zeroed when they are back

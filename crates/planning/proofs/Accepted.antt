@@ -6,11 +6,10 @@ use mathlib.Core.Logic.{⊎-elim}
 use mathlib.Core.List.{List}
 use Prim.Native.Nat.{ℕ, _-_, _≤_}
 use native.Mathlib.Omega.{arith}
-use lib.Dec.{eqb}
 use lib.ListN.{length, take}
-use borrow.Author.Tests.{eq-eqb, eqb-true}
+use borrow.Author.Tests.{eq-eqb, ne-eqb}
 use Rattle.model.specs.Answers.{accepted, refused, over}
-use Rattle.model.proofs.Tests.{either, pick-true, pick-false}
+use Rattle.model.proofs.Tests.{same-or-not, pick-true, pick-false}
 use Rattle.model.proofs.Writing.{over-take}
 use Rattle.cost.specs.Statistics.{statsOf}
 use Rattle.cost.specs.Forms.{wholeForm}
@@ -41,17 +40,14 @@ pub record Planned (start end : ℕ) (rows seeds : List ℕ) (limit room : ℕ) 
   pub holds : Holds (plannedForm start end rows seeds .tag) (end - start) (positionsOf start rows) (plannedBody start end rows seeds)
 
 module _ (start end : ℕ) (rows seeds : List ℕ) (limit words room : ℕ) (ok : planNumber start end rows seeds limit words room ≡ 0) where
-  early : earlyNumber start end rows seeds words ≡ 0
-  early = plan-early start end rows seeds limit words room ok
-
   pub plan-divided : Divided start end rows (endsOf rows seeds) words
-  plan-divided = early-divided start end rows seeds words early
+  plan-divided = early-divided start end rows seeds words (plan-early start end rows seeds limit words room ok)
 
   pub planned : Planned start end rows seeds limit room
   unfolding plannedForm plannedBody plannedSegments
   planned =
       let d = plan-divided in
-      let size = planned-size start end rows seeds words early in
+      let size = planned-size start end rows seeds words (plan-early start end rows seeds limit words room ok) in
       let late = late-zero (plannedForm start end rows seeds .bytes) limit room (plan-late start end rows seeds limit words room ok) in
       record {
         sized = size;
@@ -64,13 +60,16 @@ module _ (start end : ℕ) (rows seeds : List ℕ) (limit words room : ℕ) (ok 
 
 -- ---- the answer and the output
 
-pub answered-number : (n : ℕ) (values : List ℕ) → answered n values .number ≡ n
+pub answered-none : (n : ℕ) (values : List ℕ) → n ≡ 0 → answered n values ≡ accepted values
 unfolding answered
-answered-number n values =
-    ⊎-elim
-    (λ e. rw (pick-true (accepted values) (refused n) e) (sym (eqb-true n 0 e)))
-    (λ e. rw (pick-false (accepted values) (refused n) e))
-    (either (eqb n 0))
+answered-none n values e = pick-true _ _ (eq-eqb n 0 e)
+
+pub answered-some : (n : ℕ) (values : List ℕ) → (n ≡ 0 → ⊥) → answered n values ≡ refused n
+unfolding answered
+answered-some n values o = pick-false _ _ (ne-eqb n 0 o)
+
+pub answered-number : (n : ℕ) (values : List ℕ) → answered n values .number ≡ n
+answered-number n values = ⊎-elim (λ e. rw (answered-none n values e) (sym e)) (λ o. rw (answered-some n values o)) (same-or-not n 0)
 
 -- the answer's number is the plan's, and where it is 0 its values are those of the form
 pub plan-number : (start end : ℕ) (rows seeds : List ℕ) (limit words room : ℕ) → planOf start end rows seeds limit words room .number ≡ planNumber start end rows seeds limit words room
@@ -79,8 +78,8 @@ plan-number start end rows seeds limit words room = answered-number (planNumber 
 
 pub plan-accepted : (start end : ℕ) (rows seeds : List ℕ) (limit words room : ℕ) → planNumber start end rows seeds limit words room ≡ 0
     → planOf start end rows seeds limit words room ≡ accepted (plannedValues (plannedForm start end rows seeds) (length (plannedSegments start rows seeds)) (plannedOffers start rows seeds))
-unfolding planOf answered
-plan-accepted start end rows seeds limit words room ok = pick-true _ _ (eq-eqb _ 0 ok)
+unfolding planOf
+plan-accepted start end rows seeds limit words room ok = answered-none _ _ ok
 
 -- the bytes that the answer counts, at the front of the output, are the body
 pub output-holds : (start end : ℕ) (rows seeds : List ℕ) (limit words : ℕ) (out : List ℕ) → planNumber start end rows seeds limit words (length out) ≡ 0

@@ -7,8 +7,8 @@ use Prim.Native.Nat.{ℕ, suc, _+_, _-_, _<_, _≤_}
 use native.Mathlib.Omega.{arith}
 use lib.ListN.{length, getD}
 use Rattle.model.specs.Tests.{pick}
-use Rattle.model.specs.Lists.{Rising, none, more, shift, positionsOf}
-use Rattle.model.proofs.Rising.{rising-room, rising-wider}
+use Rattle.model.specs.Lists.{Rising, shift, positionsOf}
+use Rattle.model.proofs.Rising.{rising-room, rising-wider, rising-ends}
 use Rattle.model.proofs.Positions.{length-positions, positions-back}
 use Rattle.model.proofs.Counted.{Count}
 use Rattle.forms.specs.Forms.{localAccepts, localNames}
@@ -17,12 +17,12 @@ use Rattle.single.specs.Layout.{firstOf, extentOf}
 use Rattle.directory.specs.Directory.{isLocal}
 use Rattle.cost.specs.declared.Stats.{Stats}
 use Rattle.cost.specs.declared.Form.{Form}
-use Rattle.cost.specs.Statistics.{statsOf, spanOf}
+use Rattle.cost.specs.Statistics.{statsOf}
 use Rattle.cost.specs.Forms.{itemsForm, bitmapForm, denseForm, localForm}
 use Rattle.cost.proofs.Joining.{reach}
-use Rattle.cost.proofs.Layouts.{own-rising, ownOf}
+use Rattle.cost.proofs.Layouts.{own-rising}
 use Rattle.cost.proofs.Chosen.{Local, dense, list, runs, missing, bitmap, local-chosen}
-use Rattle.cost.proofs.Stated.{stated-local}
+use Rattle.cost.proofs.Stated.{stated-local, extent-span, own-is}
 use Rattle.planning.specs.Bodies.{tagOf, payloadOf}
 
 -- ---- the tag
@@ -46,33 +46,21 @@ module _ (seg : List ℕ) where
 
 -- ---- the rows counted from the first
 
-from-first : {a b : ℕ} {seg : List ℕ} → Rising a b seg → Rising (firstOf seg) b seg
-unfolding firstOf
-from-first none = none
-from-first (more {x = x} l h r) = more {a = x} {x = x} (omega arith) h r
-
 module _ {a b : ℕ} {seg : List ℕ} (r : Rising a b seg) (some : 1 ≤ length seg) where
   pub extent-end : firstOf seg + extentOf seg ≡ suc (getD seg (length seg - 1) 0)
   unfolding firstOf extentOf
   extent-end = omega (arith, reach r some)
 
-  extent-span : extentOf seg ≡ spanOf (statsOf seg)
-  unfolding firstOf extentOf statsOf
-  extent-span = omega (arith, reach r some)
-
-  own-is : positionsOf (firstOf seg) seg ≡ ownOf seg
-  unfolding firstOf
-  own-is = refl
-
   pub own-rises : Rising 0 (extentOf seg) (positionsOf (firstOf seg) seg)
-  own-rises = rw (extent-span, own-is) (own-rising seg r some)
+  own-rises = rw (extent-span seg r some, own-is seg) (own-rising seg r)
 
   pub own-back : shift (firstOf seg) (positionsOf (firstOf seg) seg) ≡ seg
-  own-back = sym (positions-back (firstOf seg) (omega arith) (from-first r))
+  unfolding firstOf
+  own-back = sym (positions-back (getD seg 0 0) (omega arith) (rising-ends r refl))
 
   pub payload-size : length (payloadOf seg) ≡ localForm (statsOf seg) .bytes
   unfolding payloadOf tagOf
-  payload-size = rw (extent-span, own-is) (sym (stated-local seg r some))
+  payload-size = rw (extent-span seg r some, own-is seg) (sym (stated-local seg r))
 
   pub own-count : length seg ≤ 65535 → Count (extentOf seg) (length seg)
   own-count few = record { some = some; within = omega (arith, rising-room (omega arith) own-rises, length-positions (firstOf seg) seg); most = few }
@@ -92,7 +80,7 @@ module _ {a b : ℕ} {seg : List ℕ} (r : Rising a b seg) (some : 1 ≤ length 
 
     each-fits : (f : Form) → Local (statsOf seg) f → LocalFits (f .tag) (extentOf seg) (positionsOf (firstOf seg) seg)
     unfolding denseForm itemsForm bitmapForm statsOf
-    each-fits _ (dense e) = fits-dense own-rises own-some own-few (omega (arith, extent-span, own-count few .within, length-positions (firstOf seg) seg))
+    each-fits _ (dense e) = fits-dense own-rises own-some own-few (omega (arith, extent-span seg r some, own-count few .within, length-positions (firstOf seg) seg))
     each-fits _ list = fits-list own-rises own-some own-few own-narrow
     each-fits _ runs = fits-runs own-rises own-some own-few own-narrow
     each-fits _ missing = fits-missing own-rises own-some own-few narrow

@@ -51,9 +51,12 @@ module _ (segs : List (List ℕ)) where
   unfolding entriesOf payloadAt
   sizes = flat-total _ _ (length segs) (λ i l. refl)
 
-  pub length-segmented : length (segmentedLayout segs) ≡ directorySize (length segs) + total (entriesOf segs .size) (length segs)
+  pub layout-length : length (segmentedLayout segs) ≡ directorySize (length segs) + length (flat (payloadAt segs) (length segs))
   unfolding segmentedLayout
-  length-segmented = length-append (directoryLayout (entriesOf segs) (length segs)) _ ∙ rw (length-layout (entriesOf segs) (length segs), sizes)
+  layout-length = length-append (directoryLayout (entriesOf segs) (length segs)) _ ∙ rw (length-layout (entriesOf segs) (length segs))
+
+  pub length-segmented : length (segmentedLayout segs) ≡ directorySize (length segs) + total (entriesOf segs .size) (length segs)
+  length-segmented = layout-length ∙ rw sizes
 
 -- ---- segments that make up rising rows
 

@@ -3,8 +3,8 @@
 use mathlib.Core.Path.{_≡_, refl, sym, _∙_}
 use mathlib.Core.Bool.{Bool, true, false, false≢true}
 use mathlib.Core.Logic.{⊎-elim}
-use mathlib.Core.List.{List, [], _∷_, _++_}
-use Prim.Native.Nat.{ℕ, suc, _+_, _-_, _*_, _/_, _^_, _<_, _≤_}
+use mathlib.Core.List.{List, _++_}
+use Prim.Native.Nat.{ℕ, _+_, _-_, _*_, _/_, _^_, _<_, _≤_}
 use native.Mathlib.Nat.{mod-eq-of-lt}
 use native.Mathlib.Omega.{arith}
 use lib.Dec.{eqb}
@@ -13,9 +13,9 @@ use borrow.Author.Tests.{le-leb, eq-eqb}
 use Rattle.fields.specs.Le.{le, digits}
 use Rattle.fields.proofs.Laws.{le-digits}
 use Rattle.model.specs.Tests.{both, pick}
-use Rattle.model.specs.Lists.{Rising, none, more, has, shift, runsOf, positionsOf}
+use Rattle.model.specs.Lists.{Rising, has, shift, runsOf, positionsOf}
 use Rattle.model.proofs.Tests.{either, both-true, pick-true, pick-false}
-use Rattle.model.proofs.Rising.{rising-low, rising-high, rising-below}
+use Rattle.model.proofs.Rising.{rising-below, rising-wider, rising-first, rising-ends}
 use Rattle.model.proofs.Standing.{has-at}
 use Rattle.model.proofs.Positions.{length-positions, getD-positions}
 use Rattle.model.proofs.Append.{shift-zero}
@@ -109,15 +109,8 @@ plain : {A : Type 0} → false ≡ true → A
 plain e = absurd (false≢true e)
 
 -- no position is past the last
-narrow : {a b c : ℕ} {xs : List ℕ} → Rising a b xs → getD xs (length xs - 1) 0 < c → Rising a c xs
-narrow none h = none
-narrow (more {xs = []} l u r) h = more l h none
-narrow {c = c} (more {x = x} {xs = y ∷ ys} l u r) h =
-    let whole : length (x ∷ y ∷ ys) - 1 ≡ suc (length ys) = omega arith in
-    let tail : length (y ∷ ys) - 1 ≡ length ys = omega arith in
-    let last : getD (y ∷ ys) (length (y ∷ ys) - 1) 0 < c = rw tail (rw whole at h) in
-    let rest = narrow r last in
-    more {b = c} l (omega (arith, rising-low rest, rising-high rest)) rest
+narrow : {a b c : ℕ} {xs : List ℕ} → Rising a b xs → 1 ≤ length xs → getD xs (length xs - 1) 0 < c → Rising 0 c xs
+narrow {xs = xs} r some h = rising-wider (omega arith) (omega (arith, rising-first r (length xs - 1) (omega arith))) (rising-ends r refl)
 
 module _ {span : ℕ} {xs : List ℕ} (r : Rising 0 span xs) (some : 1 ≤ length xs) (few : length xs ≤ 65535) (small : span ≤ 4294967295) where
   -- ---- without a header
@@ -249,8 +242,8 @@ module _ {span : ℕ} {xs : List ℕ} (r : Rising 0 span xs) (some : 1 ≤ lengt
   unfolding denseForm itemsForm bitmapForm statsOf firstOf
   each-fits _ (cheapest.dense e) = dense e
   each-fits _ cheapest.list32 = list32
-  each-fits _ (cheapest.list16 h) = list16 (narrow r (omega arith))
-  each-fits _ (cheapest.runs16 h) = runs16 (narrow r (omega arith))
+  each-fits _ (cheapest.list16 h) = list16 (narrow r some (omega arith))
+  each-fits _ (cheapest.runs16 h) = runs16 (narrow r some (omega arith))
   each-fits _ (cheapest.runs32 h) = runs32
   each-fits _ cheapest.bitmap = bitmap
   each-fits _ cheapest.trimmed-bitmap = trimmed-bitmap

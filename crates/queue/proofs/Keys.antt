@@ -7,15 +7,15 @@ use Prim.Native.Nat.{ℕ, zero, suc, _+_, _*_, _/_, _%_, _<_, _≤_}
 use native.Mathlib.Omega.{arith}
 use native.Mathlib.Nat.{eq-or-lt-of-le, le-of-suc-le-suc, not-suc-le-zero}
 use native.Mathlib.Numerals.{add-one}
-use native.Mathlib.Decide.{ℕ-discrete}
 use lib.ListN.{length, getD, set, length-set}
 use lib.Seq.{getD-set-same, getD-set-other}
 use borrow.Author.Tests.{eq-eqb, ne-eqb}
 use Rattle.model.specs.Tests.{pick}
+use Rattle.model.proofs.Tests.{same-or-not}
 use Rattle.queue.specs.Keys.{key, put, one, occ}
 
 pub by-eq : {P : Type 0} (j i : ℕ) → (j ≡ i → P) → ((j ≡ i → ⊥) → P) → P
-by-eq j i y n = elim (ℕ-discrete j i) [ yes e ↦ y e | no e ↦ n e ]
+by-eq j i y n = ⊎-elim y n (same-or-not j i)
 
 -- g is f with v at i
 pub record Upd (f g : ℕ → ℕ) (i v : ℕ) : Type 0 where

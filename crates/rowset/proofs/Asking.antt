@@ -3,7 +3,7 @@
 use mathlib.Core.Path.{_≡_, refl, sym, ap, _∙_}
 use mathlib.Core.Bool.{true, false}
 use mathlib.Core.List.{List, [], _∷_, _++_}
-use Prim.Native.Nat.{ℕ, _+_, _<_, _≤_}
+use Prim.Native.Nat.{ℕ, suc, _+_, _<_, _≤_}
 use native.Mathlib.Numerals.{add-one}
 use native.Mathlib.Omega.{arith}
 use lib.Dec.{ltb}
@@ -60,7 +60,7 @@ ranks-append rows (p ∷ ps) qs = rw (ranks-append rows ps qs)
 pub length-ranks : (rows ps : List ℕ) → length (ranksOf rows ps) ≡ length ps
 unfolding ranksOf
 length-ranks rows [] = refl
-length-ranks rows (p ∷ ps) = ap Prim.Native.Nat.suc (length-ranks rows ps)
+length-ranks rows (p ∷ ps) = ap suc (length-ranks rows ps)
 
 pub record Answering (rows ps before out : List ℕ) (i : ℕ) : Type 0 where
   pub upto : i ≤ length ps

@@ -3,7 +3,7 @@
 use mathlib.Core.Path.{_≡_, sym, ap, _∙_}
 use mathlib.Core.List.{List, [], _∷_, _++_, append-assoc, append-nil}
 use Prim.Native.Nat.{ℕ, zero, suc, _+_, _-_, _*_, _<_, _≤_}
-use native.Mathlib.Nat.{zero-add, add-zero, add-assoc, suc-mul, zero-mul}
+use native.Mathlib.Nat.{zero-add, add-zero, add-assoc, suc-mul, zero-mul, le-of-eq}
 use native.Mathlib.Omega.{arith}
 use lib.ListN.{length, take, drop, length-append}
 use lib.Seq.{take-add, drop-drop, take-all}
@@ -64,7 +64,7 @@ module _ {w : ℕ} {xs : List ℕ} {span count n : ℕ} (p : Parts w xs span cou
   bytes-to b zero h = rw zero-mul
   bytes-to b (suc m) h =
       let rows : 0 + length (spread (tabulate (runAt w xs) m)) ≡ runBefore w xs m = zero-add _ ∙ ap length (sym (names-spread w xs m)) ∙ names-total w xs m ∙ sym (p .fit m h .exact) in
-      let room : (m + 1) * strideOf w ≤ length xs = slot (strideOf w) m (native.Mathlib.Nat.le-of-eq (p .sized)) h in
+      let room : (m + 1) * strideOf w ≤ length xs = slot (strideOf w) m (le-of-eq (p .sized)) h in
       bytes-behind w 0 (tabulate (runAt w xs) m) (runAt w xs m)
       ∙ rw (rows, bytes-to b m (omega arith), entry-bytes w xs m b room, suc-mul) (sym (take-add (m * strideOf w) (strideOf w) xs))
 
@@ -74,4 +74,4 @@ module _ {w : ℕ} {xs : List ℕ} {span count n : ℕ} (p : Parts w xs span cou
   layout-names b =
       let e : n ≡ suc (n - 1) = omega (arith, some-run p) in
       let a : Apart 0 (runStart w xs (n - 1) + runSize w xs (n - 1)) (tabulate (runAt w xs) n) = rw (← e) at (apart-to (n - 1) (omega (arith, some-run p))) in
-      rw (names-spread w xs n, runsOf-spread a, bytes-to b n (omega arith)) (take-all (n * strideOf w) xs (native.Mathlib.Nat.le-of-eq (sym (p .sized))))
+      rw (names-spread w xs n, runsOf-spread a, bytes-to b n (omega arith)) (take-all (n * strideOf w) xs (le-of-eq (sym (p .sized))))

@@ -9,10 +9,10 @@ use native.Mathlib.Omega.{arith}
 use lib.ListN.{length, take, drop}
 use lib.Seq.{sets, take-nil}
 use Rattle.model.specs.Lists.{range, moved}
-use Rattle.model.specs.Answers.{over, Walked}
+use Rattle.model.specs.Answers.{Walked}
 use Rattle.model.proofs.Ranges.{length-range, range-append}
 use Rattle.model.proofs.Taking.{drop-past}
-use Rattle.model.proofs.Writing.{moved-range, Filled, filled-start, filled-length, filled-more, filled-end}
+use Rattle.model.proofs.Writing.{moved-range, Filled, filled-start, filled-length, filled-more, filled-end, walks-none}
 use Rattle.runs.specs.Runs.{runStart, runSize, runBefore}
 use Rattle.runs.specs.Asked.{entryOf, beforeTo, runsFrom, runsRest, runsWalk}
 use Rattle.runs.specs.declared.Entry.{Entry}
@@ -80,9 +80,9 @@ module _ {w : ℕ} {xs : List ℕ} {n base : ℕ} {rows before after : List ℕ}
 -- ---- the walk from an ordinal
 
 pub walked-none : (w : ℕ) (xs : List ℕ) (n k base : ℕ) (out : List ℕ) {found : ℕ} → found ≡ beforeTo w xs n k → found ≡ 0 → Walked (runsWalk w xs n k base (length out)) out out 0
-unfolding runsWalk runsRest moved over
+unfolding runsWalk runsRest moved
 walked-none w xs n k base out e z =
-    rw (← last-none [] (λ (i : ℕ). runsFrom w xs (n - i) i (k - runBefore w xs i)) e z, take-nil) (record { written = refl; number = refl })
+    walks-none out (rw (← last-none [] (λ (i : ℕ). runsFrom w xs (n - i) i (k - runBefore w xs i)) e z, take-nil))
 
 pub walked-rest : (w : ℕ) (xs : List ℕ) (n k base : ℕ) {before after : List ℕ} {found r : ℕ} {e : Entry} → found ≡ beforeTo w xs n k → (found ≡ 0 → ⊥) → e ≡ entryOf w xs (found - 1)
     → Walked (moved base (take (length before) (runsFrom w xs (n - (found - 1)) (found - 1) (k - e .before)))) before after r → Walked (runsWalk w xs n k base (length before)) before after r

@@ -5,7 +5,7 @@ use mathlib.Core.Bool.{false}
 use mathlib.Core.Logic.{_⊎_, ⊎-elim, inl, inr}
 use mathlib.Core.List.{List, [], _++_, append-assoc, append-nil}
 use Prim.Native.Nat.{ℕ, zero, suc, _+_, _-_, _%_, _<_, _≤_}
-use native.Mathlib.Nat.{add-zero, sub-zero, mod-eq-of-lt}
+use native.Mathlib.Nat.{add-zero, sub-zero, mod-eq-of-lt, eq-or-lt-of-le}
 use native.Mathlib.Omega.{arith}
 use lib.ListN.{length, getD, drop}
 use lib.Seq.{drop-append-add, drop-append-le}
@@ -106,7 +106,7 @@ module _ {w : ℕ} {xs : List ℕ} {span count n : ℕ} (p : Parts w xs span cou
       let u : k < runBefore w xs (suc i) = above (runBefore w xs) k (suc i) (c .from (suc i) (omega arith) l) in
       let v : runBefore w xs i ≤ k = at-most (runBefore w xs) k i (c .below i (omega arith)) in
       inl (omega (arith, p .fit i (omega arith) .exact, p .fit (suc i) l .exact)))
-      (native.Mathlib.Nat.eq-or-lt-of-le (c .within))
+      (eq-or-lt-of-le (c .within))
 
   -- ordinal 0 has a run
   first-run : (k : ℕ) → Cut (upTo false (runBefore w xs) k) n 0 → ⊥

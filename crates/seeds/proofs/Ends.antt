@@ -1,38 +1,27 @@
 -- Ends of seeds that follow one another: test 4 in two parts, and what the first of them says of every end.
 -- Assumes nothing.
 use mathlib.Core.Path.{_≡_, refl, sym, _∙_}
-use mathlib.Core.Bool.{Bool, true, false, _&&_, not}
+use mathlib.Core.Bool.{Bool, true, false, _&&_}
 use mathlib.Core.List.{List}
 use Prim.Native.Nat.{ℕ, zero, suc, _+_, _-_, _<_, _≤_}
 use native.Mathlib.Numerals.{add-one}
 use native.Mathlib.Omega.{arith}
 use lib.Dec.{eqb, ltb}
 use lib.ListN.{length, getD}
-use borrow.Author.Tests.{ltb-true, lt-ltb, le-leb, eqb-true, eq-eqb, ne-eqb, not-true, not-false}
+use borrow.Author.Tests.{ltb-true, lt-ltb, le-leb, eqb-true, eq-eqb, ne-eqb}
 use Rattle.model.specs.Tests.{both, all}
-use Rattle.model.proofs.Tests.{same-test, both-true, both-left, both-right, both-first, all-at, all-from, all-step, pick-true, pick-false}
+use Rattle.model.proofs.Tests.{same-test, both-true, both-left, both-right, both-first, all-at, all-from, pick-true, pick-false}
 use Rattle.gather.specs.Gather.{upAt, rises}
 use Rattle.gather.specs.Seeds.{startOf, seedAt, seedsFit, windows}
-use Rattle.model.proofs.Counted.{and-both}
+use Rattle.model.proofs.Counted.{and-both, flag-step}
 use Rattle.planning.specs.Refusals.{givenFit, endsOf}
 use Rattle.planning.proofs.Dividing.{climbs, seed-fits, rises-next}
 use Rattle.seeds.specs.Ends.{endsRise, near, nearAt}
-
--- a test by its answer
-pub met : {t u : Bool} → t ≡ u → not t ≡ false → u ≡ true
-met {t} e f = sym e ∙ not-false t f
-
-pub missed : {t u : Bool} → t ≡ u → not t ≡ true → u ≡ false
-missed {t} e f = sym e ∙ not-true t f
 
 -- seed i has a row, and ends within n rows
 pub record Following (n : ℕ) (ends : List ℕ) : Type 0 where
   pub some : (i : ℕ) → i < length ends → startOf ends i < getD ends i 0
   pub inside : (i : ℕ) → i < length ends → getD ends i 0 ≤ n
-
--- one turn of a loop that keeps a flag
-pub flag-step : (t : ℕ → Bool) (i : ℕ) (ok : Bool) → ok ≡ all t i → (ok && t i) ≡ all t (i + 1)
-flag-step t i ok e = rw e (and-both _ _ ∙ sym (all-step t i))
 
 -- ---- the first part of test 4
 
@@ -86,7 +75,7 @@ module _ (rows ends : List ℕ) where
     nearing-next r q = record {
       within = omega arith;
       from = rw (add-one i) e;
-      so = rw (q, k .from, e) (flag-step (nearAt rows ends) i ok (k .so));
+      so = flag-step (nearAt rows ends) i (k .so) (rw (q, k .from, e));
     }
 
   pub nearing-end : (ok : Bool) (a i : ℕ) → Nearing rows ends ok a i → length ends ≤ i → ok ≡ all (nearAt rows ends) (length ends)

@@ -6,7 +6,7 @@ use mathlib.Core.List.{List}
 use Prim.Native.Nat.{ℕ, _+_, _-_, _*_, _<_, _≤_}
 use native.Mathlib.Numerals.{add-one}
 use native.Mathlib.Omega.{arith}
-use lib.ListN.{length, getD, take, drop, length-take, length-drop}
+use lib.ListN.{length, getD, take, drop}
 use Rattle.model.specs.Lists.{positionsOf}
 use Rattle.model.proofs.Tests.{last-or-before}
 use Rattle.model.proofs.Rising.{rising-take, rising-drop}
@@ -20,6 +20,7 @@ use Rattle.merge.specs.Tables.{putStat}
 use Rattle.merge.proofs.Tables.{stat-length, stat-here, stat-other}
 use Rattle.planning.specs.Refusals.{endsOf}
 use Rattle.planning.specs.Segments.{part, between}
+use Rattle.planning.proofs.Dividing.{part-length}
 use Rattle.seeds.specs.Ends.{Window}
 use Rattle.seeds.specs.Placed.{Seeded, Placed, Begun, Ranged}
 use Rattle.seeds.proofs.Ends.{Following, none-ends, given-ends}
@@ -28,11 +29,9 @@ use Rattle.seeds.proofs.Windows.{windows-each, window-only, ends-follow
 -- ---- a part of rows
 
 module _ (start : ℕ) (rows : List ℕ) (a b : ℕ) (k : Ranged start rows a b) where
-  part-length : length (take (b - a) (drop a rows)) ≡ b - a
-  part-length = let l = k .inside in simp (length-take, length-drop) (omega arith)
-
   pub part-covered : Covered start (take (b - a) (drop a rows))
-  part-covered = let s = k .some in record { some = rw part-length (omega arith); rising = rising-take (b - a) (rising-drop a (k .covered .rising)) }
+  unfolding part
+  part-covered = let s = k .some in record { some = rw (part-length rows a b (omega arith) (k .inside)) (omega arith); rising = rising-take (b - a) (rising-drop a (k .covered .rising)) }
 
   pub part-few : (1 ≤ length (take (b - a) (drop a rows))) × (length (take (b - a) (drop a rows)) ≤ 4294967295)
   part-few = (part-covered .some, covered-few start (take (b - a) (drop a rows)) part-covered)

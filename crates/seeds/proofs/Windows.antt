@@ -11,18 +11,16 @@ use lib.ListN.{length, getD, length-append, List·getD-append}
 use lib.Seq.{getD-at}
 use Rattle.model.specs.Tests.{pick}
 use Rattle.model.proofs.Tests.{either, order, never, strictly, last-or-before, same-or-not, both-left, pick-true, pick-false}
-use Rattle.gather.specs.Seeds.{startOf, cuts, windows}
+use Rattle.gather.specs.Seeds.{startOf, sameAt, cuts, windows}
+use Rattle.gather.proofs.Windows.{cuts-same, cuts-more}
 use Rattle.planning.specs.Refusals.{givenFit, endsOf}
-use Rattle.seeds.specs.Ends.{together, sameAt, Window}
+use Rattle.seeds.specs.Ends.{together, Window}
 use Rattle.seeds.proofs.Ends.{Following, rise-following, fit-parts, none-ends, given-ends, given-fit}
 
-cuts-same : (rows : List ℕ) (i : ℕ) → sameAt rows i ≡ true → cuts rows (i + 1) ≡ cuts rows i
-unfolding cuts sameAt together
-cuts-same rows i e = rw (add-one i) (pick-true _ _ (rw (add-one i) at e))
-
-cuts-more : (rows : List ℕ) (i : ℕ) → sameAt rows i ≡ false → cuts rows (i + 1) ≡ cuts rows i ++ ((i + 1) ∷ [])
-unfolding cuts sameAt together
-cuts-more rows i e = rw (add-one i) (pick-false _ _ (rw (add-one i) at e))
+-- the test of a row and the next, as the code makes it
+together-same : (rows : List ℕ) (i : ℕ) → together (getD rows i 0) (getD rows (i + 1) 0) ≡ sameAt rows i
+unfolding together sameAt
+together-same rows i = rw (add-one i)
 
 -- ---- how many there are: what a loop has counted after i + 1 rows
 
@@ -36,17 +34,16 @@ unfolding cuts
 counting-start rows = record { within = omega arith; small = omega arith; so = refl }
 
 pub counting-next : (rows : List ℕ) (n i k : ℕ) → Counting rows n i → i + 1 < length rows → (t : Bool) → t ≡ together (getD rows i 0) (getD rows (i + 1) 0) → k ≡ pick t 0 1 → k ≤ 1 → Counting rows (n + k) (i + 1)
-unfolding sameAt
 counting-next rows n i k c h t q p l =
     let s = c .so in
-    let e : k ≡ pick (sameAt rows i) 0 1 = rw q at p in
+    let e : k ≡ pick (sameAt rows i) 0 1 = rw (q ∙ together-same rows i) at p in
     record {
       within = omega arith;
       small = omega (arith, c .small);
       so =
           ⊎-elim
-          (λ t. let z : k ≡ 0 = e ∙ pick-true _ _ t in rw (cuts-same rows i t) (omega arith))
-          (λ t. let z : k ≡ 1 = e ∙ pick-false _ _ t in rw (cuts-more rows i t, length-append) (omega arith))
+          (λ t. let z : k ≡ 0 = e ∙ pick-true _ _ t in rw (add-one i, cuts-same rows i t) (omega arith))
+          (λ t. let z : k ≡ 1 = e ∙ pick-false _ _ t in rw (add-one i, cuts-more rows i t, length-append) (omega arith))
           (either (sameAt rows i));
     }
 
@@ -117,11 +114,10 @@ module _ (rows : List ℕ) where
   cutting zero h = cutting-start
   cutting (suc m) h =
       let c = cutting m (omega arith) in
-      rw (← add-one m)
-      (⊎-elim
-      (λ e. rw (cuts-same rows m e) (cutting-same (cuts rows m) m c e))
-      (λ e. rw (cuts-more rows m e) (cutting-more (cuts rows m) m c (omega arith) e))
-      (either (sameAt rows m)))
+      ⊎-elim
+      (λ e. rw (cuts-same rows m e, ← add-one m) (cutting-same (cuts rows m) m c e))
+      (λ e. rw (cuts-more rows m e, ← add-one m) (cutting-more (cuts rows m) m c (omega arith) e))
+      (either (sameAt rows m))
 
   -- each window of rows is one
   pub windows-each : 1 ≤ length rows → Windowed rows (windows rows)
@@ -151,8 +147,7 @@ module _ (rows : List ℕ) (a : ℕ) where
 
   module _ (j : ℕ) (k : Walking rows a j) (t : Bool) (q : t ≡ together (getD rows (j - 1) 0) (getD rows j 0)) where
     before-same : t ≡ sameAt rows (j - 1)
-    unfolding sameAt
-    before-same = let b = k .begun in let e : j - 1 + 1 ≡ j = omega arith in rw e q
+    before-same = let b = k .begun in let e : j - 1 + 1 ≡ j = omega arith in q ∙ rw e at (together-same rows (j - 1))
 
     pub walking-next : j < length rows → t ≡ true → Walking rows a (j + 1)
     walking-next h e =

@@ -3,12 +3,12 @@
 use mathlib.Core.Path.{_≡_}
 use mathlib.Core.Bool.{Bool, true, false}
 use mathlib.Core.List.{List}
-use Prim.Native.Nat.{ℕ, suc, _+_, _-_, _/_, _<_, _≤_}
+use Prim.Native.Nat.{ℕ, suc, _-_, _/_, _<_, _≤_}
 use lib.Dec.{eqb, leb, ltb}
 use lib.ListN.{length, getD}
 use Rattle.model.specs.Tests.{both}
 use Rattle.gather.specs.Gather.{rises}
-use Rattle.gather.specs.Seeds.{startOf}
+use Rattle.gather.specs.Seeds.{startOf, sameAt}
 
 -- first at least 1, strictly rising, last = row count
 unfoldable pub endsRise : ℕ → List ℕ → Bool
@@ -25,10 +25,6 @@ nearAt rows ends i = near rows (startOf ends i) (getD ends i 0)
 -- two rows stand in the same 4,096-window of absolute row number
 unfoldable pub together : ℕ → ℕ → Bool
 together a b = eqb (b / 4096) (a / 4096)
-
--- row i and the next
-unfoldable pub sameAt : List ℕ → ℕ → Bool
-sameAt rows i = together (getD rows i 0) (getD rows (i + 1) 0)
 
 -- from index a up to index b the rows stand in one window, and the next, if there is one, in another
 pub record Window (rows : List ℕ) (a b : ℕ) : Type 0 where

@@ -1,14 +1,14 @@
 -- What the code has in hand of a segment: its entry, and the part of the body that the entry names.
 -- Assumes nothing.
 use mathlib.Core.Path.{_≡_, sym, _∙_}
-use mathlib.Core.Bool.{Bool, true, false, _&&_}
+use mathlib.Core.Bool.{Bool, true, false}
 use mathlib.Core.List.{List}
 use Prim.Native.Nat.{ℕ, _+_, _-_, _*_, _<_, _≤_}
 use native.Mathlib.Omega.{arith}
 use lib.ListN.{length}
 use Rattle.model.specs.Tests.{all}
-use Rattle.model.proofs.Tests.{both-first, all-step}
-use Rattle.model.proofs.Counted.{both-pass, and-both}
+use Rattle.model.proofs.Tests.{both-first}
+use Rattle.model.proofs.Counted.{both-pass}
 use Rattle.directory.specs.Directory.{statedSegments, startAt, offsetAt, lengthAt, entryOf, partOf, directoryAccepts}
 use Rattle.directory.specs.declared.Segment.{Segment}
 use Rattle.directory.proofs.Parts.{accepts-directory}
@@ -35,10 +35,6 @@ unfolding partAccepts entryOf
 part-checked {e} xs i q c = c ∙ rw (cut-part xs i q, q)
 
 -- ---- every part
-
--- one more part
-pub parts-next : {ok part : Bool} (xs : List ℕ) (i : ℕ) → ok ≡ all (partAccepts xs) i → part ≡ partAccepts xs i → (ok && part) ≡ all (partAccepts xs) (i + 1)
-parts-next {ok} {part} xs i p q = and-both ok part ∙ rw (p, q) (sym (all-step (partAccepts xs) i))
 
 module _ (span : ℕ) (xs : List ℕ) where
   pub directory-fails : directoryAccepts xs span ≡ false → false ≡ segmentedAccepts span xs

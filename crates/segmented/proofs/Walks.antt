@@ -11,7 +11,7 @@ use lib.Seq.{drop-drop, take-nil}
 use borrow.Rule.Slice.PartMut.{midOf, putMid}
 use Rattle.model.specs.Lists.{walkOf, moved}
 use Rattle.model.specs.Answers.{over, Walked}
-use Rattle.model.proofs.Writing.{length-moved, over-none, over-length, over-take, over-drop}
+use Rattle.model.proofs.Writing.{length-moved, over-none, over-length, over-take, over-drop, walks-none}
 use Rattle.directory.specs.Directory.{statedSegments, statedCount, startAt, countAt, ordinalAt, rowsBefore, entryOf}
 use Rattle.directory.specs.declared.Segment.{Segment}
 use Rattle.directory.proofs.Facts.{Holds}
@@ -98,8 +98,7 @@ module _ (span : ℕ) (xs : List ℕ) (ok : segmentedAccepts span xs ≡ true) (
   pub walk-none : {count : ℕ} → count ≡ statedCount xs → count ≤ k → Walked (walkOf (segmentedNames xs) k (length before)) before before 0
   walk-none e h =
       let past : drop k (segmentedNames xs) ≡ [] = drop-of-length-le (segmentedNames xs) {i = k} (omega (arith, segmented-length span xs ok bytes)) in
-      let none : walkOf (segmentedNames xs) k (length before) ≡ [] = rw past (take-nil (length before)) in
-      record { written = rw none (sym (over-none before)); number = rw none }
+      walks-none before (rw past (take-nil (length before)))
 
   -- the walk from row number k - ordinal of the segment that holds k
   pub walk-held : {e : Segment} {after : List ℕ} {n i : ℕ} → Holds xs (statedSegments xs) k i → e ≡ entryOf xs i

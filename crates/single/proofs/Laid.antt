@@ -2,7 +2,7 @@
 -- Assumes nothing.
 use mathlib.Core.Path.{_≡_, refl, sym, ap, ap₂, _∙_, subst}
 use mathlib.Core.Bool.{Bool, true, false, false≢true}
-use mathlib.Core.Logic.{_⊎_, ⊎-elim}
+use mathlib.Core.Logic.{⊎-elim}
 use mathlib.Core.List.{List, [], _++_, append-assoc}
 use Prim.Native.Nat.{ℕ, _+_, _-_, _*_, _/_, _<_, _≤_}
 use native.Mathlib.Nat.{eq-or-lt-of-le}
@@ -22,6 +22,7 @@ use Rattle.model.proofs.Append.{length-shift, getD-shift, shift-zero}
 use Rattle.forms.specs.Forms.{byTag, localAccepts, localLayout}
 use Rattle.forms.proofs.Laws.{local-layout}
 use Rattle.forms.proofs.Laid.{runs-layout-length, wide-runs-layout-length}
+use Rattle.forms.proofs.Tags.{Other}
 use Rattle.single.specs.Single.{view, viewOf, bitmapView, trimmedMissingView, fieldsOk, partIn, namedIn, endsOk, singleAccepts, singleNames}
 use Rattle.single.specs.Layout.{firstOf, extentOf, plainLayout, trimmedLayout, singleLayout}
 use Rattle.single.specs.declared.View.{View}
@@ -218,7 +219,7 @@ module _ (span : ℕ) (xs : List ℕ) where
       (either (eqb (getD xs 2 0) 1))
 
   -- no other tag has an accepted body
-  laid-other : (tag : ℕ) → (tag ≡ 0) ⊎ (8 < tag) → Laid span xs tag
+  laid-other : (tag : ℕ) → Other 8 tag → Laid span xs tag
   unfolding localAccepts byTag pick
   laid-other tag o ok b = by-view tag {v = view 0 false 0 span 0 0} (sym (other-view tag span xs o)) (λ p. absurd (false≢true (p .local))) ok
 

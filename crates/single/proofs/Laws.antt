@@ -1,21 +1,22 @@
 -- The answers of the checks of a body with one local form.
 -- Assumes nothing.
-use mathlib.Core.Path.{_≡_, refl, sym, ap, _∙_}
+use mathlib.Core.Path.{_≡_, sym, ap, _∙_}
 use mathlib.Core.Bool.{Bool, true, false}
-use mathlib.Core.Logic.{_⊎_, ⊎-elim, inl, inr}
+use mathlib.Core.Logic.{⊎-elim}
 use mathlib.Core.List.{List}
-use Prim.Native.Nat.{ℕ, zero, suc, _+_, _-_, _<_, _≤_}
+use Prim.Native.Nat.{ℕ, _+_, _-_, _<_, _≤_}
 use native.Mathlib.Omega.{arith}
 use lib.Dec.{eqb, leb}
 use lib.ListN.{length, getD, take, drop, length-drop}
-use borrow.Author.Tests.{le-leb, lt-leb, ne-eqb, le-ltb}
+use borrow.Author.Tests.{le-leb, lt-leb, le-ltb}
 use Rattle.model.specs.Tests.{both, pick}
 use Rattle.model.specs.Lists.{has, placeOf}
 use Rattle.model.specs.declared.Place.{Place}
-use Rattle.model.proofs.Tests.{either, both-first, both-second, pick-true, pick-false}
+use Rattle.model.proofs.Tests.{order, same-or-not, strictly, either, both-first, both-second, pick-true, pick-false}
 use Rattle.model.proofs.Taking.{tail-is}
 use Rattle.model.proofs.Counted.{both-pass}
 use Rattle.forms.specs.Forms.{localAccepts, localNames, localSized}
+use Rattle.forms.proofs.Tags.{Other, local-cases, other-ne}
 use Rattle.single.specs.Single.{headerOf, view, bitmapView, trimmedMissingView, viewOf, fieldsOk, namedIn, endsOk, viewAccepts, singleAccepts, Readable}
 use Rattle.single.specs.declared.View.{View}
 
@@ -63,33 +64,22 @@ module _ (v : View) (span : ℕ) (xs : List ℕ) where
 -- ---- by tag
 
 -- what holds of the tags 1 to 8 and of every other tag holds of every tag
-pub tag-cases : (P : ℕ → Type 0) → P 1 → P 2 → P 3 → P 4 → P 5 → P 6 → P 7 → P 8 → ((tag : ℕ) → (tag ≡ 0) ⊎ (8 < tag) → P tag) → (tag : ℕ) → P tag
-tag-cases P p1 p2 p3 p4 p5 p6 p7 p8 other zero = other 0 (inl refl)
-tag-cases P p1 p2 p3 p4 p5 p6 p7 p8 other (suc zero) = p1
-tag-cases P p1 p2 p3 p4 p5 p6 p7 p8 other (suc (suc zero)) = p2
-tag-cases P p1 p2 p3 p4 p5 p6 p7 p8 other (suc (suc (suc zero))) = p3
-tag-cases P p1 p2 p3 p4 p5 p6 p7 p8 other (suc (suc (suc (suc zero)))) = p4
-tag-cases P p1 p2 p3 p4 p5 p6 p7 p8 other (suc (suc (suc (suc (suc zero))))) = p5
-tag-cases P p1 p2 p3 p4 p5 p6 p7 p8 other (suc (suc (suc (suc (suc (suc zero)))))) = p6
-tag-cases P p1 p2 p3 p4 p5 p6 p7 p8 other (suc (suc (suc (suc (suc (suc (suc zero))))))) = p7
-tag-cases P p1 p2 p3 p4 p5 p6 p7 p8 other (suc (suc (suc (suc (suc (suc (suc (suc zero)))))))) = p8
-tag-cases P p1 p2 p3 p4 p5 p6 p7 p8 other (suc (suc (suc (suc (suc (suc (suc (suc (suc n))))))))) = other (suc (suc (suc (suc (suc (suc (suc (suc (suc n))))))))) (inr (omega arith))
+pub tag-cases : (P : ℕ → Type 0) → P 1 → P 2 → P 3 → P 4 → P 5 → P 6 → P 7 → P 8 → ((tag : ℕ) → Other 8 tag → P tag) → (tag : ℕ) → P tag
+tag-cases P p1 p2 p3 p4 p5 p6 p7 p8 other =
+    local-cases P p1 p2 p3 p4 p5 p6 p7 (λ t o. ⊎-elim (λ e. rw e p8) (λ n. other t (λ h. strictly (o h) (λ e. n (sym e)))) (same-or-not t 8))
 
 -- no other tag has a header or a local form
-other-ne : (tag : ℕ) → (tag ≡ 0) ⊎ (8 < tag) → (k : ℕ) → 1 ≤ k → k ≤ 8 → eqb tag k ≡ false
-other-ne tag o k l h = ne-eqb tag k (λ e. ⊎-elim (λ z. omega arith) (λ g. omega arith) o)
-
-pub other-view : (tag span : ℕ) (xs : List ℕ) → (tag ≡ 0) ⊎ (8 < tag) → viewOf tag span xs ≡ view 0 false 0 span 0 0
+pub other-view : (tag span : ℕ) (xs : List ℕ) → Other 8 tag → viewOf tag span xs ≡ view 0 false 0 span 0 0
 unfolding viewOf pick
 other-view tag span xs o =
-    let ne : (k : ℕ) → 1 ≤ k → k ≤ 8 → eqb tag k ≡ false = other-ne tag o in
+    let ne : (k : ℕ) → 1 ≤ k → k ≤ 8 → eqb tag k ≡ false = other-ne o in
     rw (ne 1 (omega arith) (omega arith), ne 2 (omega arith) (omega arith), ne 3 (omega arith) (omega arith), ne 4 (omega arith) (omega arith), ne 5 (omega arith) (omega arith), ne 6 (omega arith) (omega arith), ne 7 (omega arith) (omega arith), ne 8 (omega arith) (omega arith))
 
-other-header : (tag : ℕ) → (tag ≡ 0) ⊎ (8 < tag) → headerOf tag ≡ 0
+other-header : (tag : ℕ) → Other 8 tag → headerOf tag ≡ 0
 unfolding headerOf pick
 other-header tag o =
-    rw (other-ne tag o 8 (omega arith) (omega arith))
-    (⊎-elim (λ (z : tag ≡ 0). rw z) (λ (g : 8 < tag). rw (le-ltb tag 4 (omega arith), le-ltb tag 8 (omega arith))) o)
+    rw (other-ne o 8 (omega arith) (omega arith))
+    (⊎-elim (λ (p : 0 < tag). rw (le-ltb tag 4 (omega (arith, o p)), le-ltb tag 8 (omega (arith, o p)))) (λ (z : tag ≤ 0). let e : tag ≡ 0 = omega arith in rw e) (order 0 tag))
 
 -- ---- a body that is shorter than its header is refused: no view starts before the header ends
 

@@ -3,23 +3,24 @@
 use mathlib.Core.Path.{_≡_, refl, sym, ap, _∙_}
 use mathlib.Core.Bool.{true, false}
 use mathlib.Core.Logic.{⊎-elim}
-use mathlib.Core.List.{List, [], _∷_, _++_, append-assoc}
+use mathlib.Core.List.{List, [], _∷_}
 use Prim.Native.Nat.{ℕ, zero, suc, _+_, _*_, _<_, _≤_}
 use native.Mathlib.Numerals.{add-one}
 use native.Mathlib.Omega.{arith}
-use lib.ListN.{length, getD, drop, set, length-set, length-append}
-use lib.Seq.{drop-cons, set-at}
+use lib.ListN.{length, set, length-set}
 use borrow.Author.Tests.{eq-eqb, ne-eqb, le-leb, lt-leb}
 use Rattle.model.specs.Tests.{tabulate}
-use Rattle.model.specs.Answers.{Answer, accepted, refused}
+use Rattle.model.specs.Answers.{Answer, accepted, refused, over}
 use Rattle.model.proofs.Tests.{either, order, same-or-not, pick-true, pick-false, length-tabulate}
+use Rattle.model.proofs.Answers.{same-number}
+use Rattle.model.proofs.Writing.{over-next}
 use Rattle.directory.specs.Directory.{statedSegments, entryOf}
 use Rattle.directory.specs.declared.Segment.{Segment}
 use Rattle.segmented.proofs.Named.{directory-of}
 use Rattle.bodies.specs.Bodies.{accepts}
 use Rattle.bodies.proofs.Laws.{nine}
 use Rattle.rowset.proofs.Asking.{refuses, answers}
-use Rattle.tables.specs.Tables.{entriesOf, overTable, segmentsAnswer, segmentsLeft, writtenIn}
+use Rattle.tables.specs.Tables.{entriesOf, segmentsAnswer, segmentsLeft, writtenIn}
 
 -- ---- one place at a time
 
@@ -41,15 +42,8 @@ unfolding fillTo
 fill-length xs zero old = refl
 fill-length xs (suc i) old = length-set (fillTo xs i old) i (entryOf xs i) ∙ fill-length xs i old
 
--- one more record behind the front
-over-next : (front old : List Segment) (i : ℕ) (v : Segment) → length front ≡ i → i < length old → set (overTable front old) i v ≡ overTable (front ++ (v ∷ [])) old
-unfolding overTable
-over-next front old i v e h =
-    let s : length (front ++ (v ∷ [])) ≡ suc i = length-append front (v ∷ []) ∙ omega arith in
-    rw (s, e, drop-cons old i v h) (set-at front (getD old i v) (drop (suc i) old) v i e ∙ sym (append-assoc front (v ∷ []) (drop (suc i) old)))
-
-pub fill-over : (xs : List ℕ) (n : ℕ) (old : List Segment) → n ≤ length old → fillTo xs n old ≡ overTable (tabulate (entryOf xs) n) old
-unfolding fillTo tabulate overTable
+pub fill-over : (xs : List ℕ) (n : ℕ) (old : List Segment) → n ≤ length old → fillTo xs n old ≡ over (tabulate (entryOf xs) n) old
+unfolding fillTo tabulate over
 fill-over xs zero old h = refl
 fill-over xs (suc i) old h =
     ap (λ (l : List Segment). set l i (entryOf xs i)) (fill-over xs i old (omega arith))
@@ -75,7 +69,7 @@ entries-none tag xs n = ap length (entries-other tag xs n)
 
 -- a refusal's number is not 0
 refused-not : {a : Answer} (k : ℕ) → refused (suc k) ≡ a → a .number ≡ 0 → ⊥
-refused-not k e z = let q : suc k ≡ 0 = ap (λ (a : Answer). a .number) e ∙ z in omega arith
+refused-not k e z = let q : suc k ≡ 0 = same-number e ∙ z in omega arith
 
 module _ (tag span : ℕ) (xs : List ℕ) where
   pub answer-refused : (room : ℕ) → accepts tag span xs ≡ false → refused 8 ≡ segmentsAnswer tag span xs room
@@ -107,14 +101,14 @@ module _ (tag span : ℕ) (xs : List ℕ) (old : List Segment) where
   unfolding segmentsLeft
   left-short ok h = pick-true _ _ ok ∙ pick-false _ _ (lt-leb _ _ h)
 
-  left-filled : accepts tag span xs ≡ true → length (entriesOf tag xs) ≤ length old → segmentsLeft tag span xs old ≡ overTable (entriesOf tag xs) old
+  left-filled : accepts tag span xs ≡ true → length (entriesOf tag xs) ≤ length old → segmentsLeft tag span xs old ≡ over (entriesOf tag xs) old
   unfolding segmentsLeft
   left-filled ok h = pick-true _ _ ok ∙ pick-true _ _ (le-leb _ _ h)
 
   -- the call is refused, writes nothing and leaves the table; or the body is accepted, there is room, and the entries are written
   pub by-case : {X : Type 0} → ((segmentsAnswer tag span xs (length old) .number ≡ 0 → ⊥) → writtenIn (segmentsAnswer tag span xs (length old)) ≡ 0 → segmentsLeft tag span xs old ≡ old → X)
       → (accepts tag span xs ≡ true → length (entriesOf tag xs) ≤ length old → writtenIn (segmentsAnswer tag span xs (length old)) ≡ length (entriesOf tag xs)
-      → segmentsLeft tag span xs old ≡ overTable (entriesOf tag xs) old → X) → X
+      → segmentsLeft tag span xs old ≡ over (entriesOf tag xs) old → X) → X
   unfolding writtenIn
   by-case stays fills =
       ⊎-elim
@@ -132,7 +126,7 @@ module _ (tag span : ℕ) (xs : List ℕ) (old : List Segment) where
   counted-none z e = record { inside = λ i l. absurd (omega arith); left = ap (λ (m : ℕ). fillTo xs m old) z ∙ fill-none xs old ∙ sym e }
 
   counted-nine : {n : ℕ} → accepts tag span xs ≡ true → tag ≡ 9 → length (entriesOf tag xs) ≤ length old → n ≡ length (entriesOf tag xs)
-      → segmentsLeft tag span xs old ≡ overTable (entriesOf tag xs) old → Counted tag span xs old n
+      → segmentsLeft tag span xs old ≡ over (entriesOf tag xs) old → Counted tag span xs old n
   counted-nine {n} ok e h q w =
       let m : n ≡ statedSegments xs = q ∙ entries-count tag xs e in
       record {
@@ -140,9 +134,9 @@ module _ (tag span : ℕ) (xs : List ℕ) (old : List Segment) where
         left = fill-over xs n old (omega arith) ∙ rw (m, ← entries-nine tag xs e) (sym w);
       }
 
-  counted-other : {n : ℕ} → (tag ≡ 9 → ⊥) → n ≡ length (entriesOf tag xs) → segmentsLeft tag span xs old ≡ overTable (entriesOf tag xs) old → Counted tag span xs old n
-  unfolding overTable
-  counted-other o q w = counted-none (q ∙ entries-none tag xs o) (w ∙ ap (λ (l : List Segment). overTable l old) (entries-other tag xs o))
+  counted-other : {n : ℕ} → (tag ≡ 9 → ⊥) → n ≡ length (entriesOf tag xs) → segmentsLeft tag span xs old ≡ over (entriesOf tag xs) old → Counted tag span xs old n
+  unfolding over
+  counted-other o q w = counted-none (q ∙ entries-none tag xs o) (w ∙ ap (λ (l : List Segment). over l old) (entries-other tag xs o))
 
   pub counted-is : {n : ℕ} → n ≡ writtenIn (segmentsAnswer tag span xs (length old)) → Counted tag span xs old n
   counted-is q =

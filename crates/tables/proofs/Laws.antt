@@ -7,10 +7,10 @@ use mathlib.Core.List.{List, []}
 use Prim.Native.Nat.{ℕ, _<_, _≤_}
 use native.Mathlib.Omega.{arith}
 use lib.ListN.{length, getD, drop, List·getD-append}
-use lib.Seq.{drop-append-seam}
 use borrow.Author.Tests.{eq-eqb, ne-eqb, lt-ltb, le-ltb}
-use Rattle.model.specs.Answers.{accepted}
+use Rattle.model.specs.Answers.{accepted, over}
 use Rattle.model.proofs.Tests.{same-or-not, pick-true, pick-false, getD-tabulate}
+use Rattle.model.proofs.Writing.{over-drop}
 use Rattle.directory.specs.Directory.{statedSegments, entryOf}
 use Rattle.directory.specs.declared.Segment.{Segment}
 use Rattle.bodies.specs.Bodies.{accepts}
@@ -18,7 +18,7 @@ use Rattle.rowset.specs.Calls.{filledOf, valuesOf, segmentAnswer}
 use Rattle.rowset.specs.declared.Filled.{Filled}
 use Rattle.rowset.proofs.Asking.{answers}
 use Rattle.rowset.proofs.Same.{filled-same}
-use Rattle.tables.specs.Tables.{entriesOf, overTable, segmentsAnswer, segmentsLeft, writtenIn}
+use Rattle.tables.specs.Tables.{entriesOf, segmentsAnswer, segmentsLeft, writtenIn}
 use Rattle.tables.proofs.Filling.{entries-nine, entries-count, entries-none, by-case}
 
 module _ (tag span : ℕ) (xs : List ℕ) (old : List Segment) where
@@ -34,8 +34,8 @@ module _ (tag span : ℕ) (xs : List ℕ) (old : List Segment) where
   unfolding segmentAnswer
   entry-answer {i} ok e l = sym (answers tag span xs ok (ap accepted (sym (pick-true _ _ (eq-eqb tag 9 e) ∙ pick-true _ _ (lt-ltb i (statedSegments xs) l)))))
 
-  over-at : {i : ℕ} (d : Segment) → tag ≡ 9 → i < statedSegments xs → getD (overTable (entriesOf tag xs) old) i d ≡ entryOf xs i
-  unfolding overTable
+  over-at : {i : ℕ} (d : Segment) → tag ≡ 9 → i < statedSegments xs → getD (over (entriesOf tag xs) old) i d ≡ entryOf xs i
+  unfolding over
   over-at {i} d e l =
       List·getD-append (entriesOf tag xs) (drop (length (entriesOf tag xs)) old) d i (omega (arith, entries-count tag xs e))
       ∙ rw (entries-nine tag xs e) (getD-tabulate (entryOf xs) (statedSegments xs) i d l)
@@ -69,8 +69,7 @@ module _ (tag span : ℕ) (xs : List ℕ) (old : List Segment) where
 
   -- the records past those that were written stay
   pub segments-rest : drop (writtenIn (segmentsAnswer tag span xs (length old))) (segmentsLeft tag span xs old) ≡ drop (writtenIn (segmentsAnswer tag span xs (length old))) old
-  unfolding overTable
   segments-rest =
       by-case tag span xs old
       (λ r z e. rw e)
-      (λ ok h k w. rw (k, w) (drop-append-seam (entriesOf tag xs) (drop (length (entriesOf tag xs)) old)))
+      (λ ok h k w. rw (k, w) (over-drop (entriesOf tag xs) old))

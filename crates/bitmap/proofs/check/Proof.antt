@@ -1,10 +1,8 @@
 -- `bitmap::check` meets its contract: the tests in turn.
 -- Assumes nothing.
-use mathlib.Core.Path.{sym, _∙_}
 use native.Mathlib.Omega.{arith}
-use borrow.Author.Tests.{not-true, not-false}
 use borrow.Author.Needs.{needs}
-use Rattle.model.proofs.Counted.{counted-none, counted-past}
+use Rattle.model.proofs.Counted.{counted-none, counted-past, met, missed}
 use Rattle.bitmap.proofs.Groups.{refuse-length, refuse-count, refuse-past, accept-rest}
 use Rattle.bitmap.proofs.check.Statement.{statement}
 use Rattle.bitmap.proofs.check.Tie as tie
@@ -22,8 +20,8 @@ check-spec =
     (λ c. refuse-count _ _ _ (counted-none _ _ (c .if2 .taken)))
     (λ c. refuse-count _ _ _ (counted-past _ _ (c .if3 .taken)))
     (λ c κs. search needs)
-    (λ c. refuse-past _ _ _ (sym (c .before .within-span .ensures) ∙ not-true _ (c .if4 .taken)))
+    (λ c. refuse-past _ _ _ (missed (c .before .within-span .ensures) (c .if4 .taken)))
     (λ c κs. search needs)
     (λ c.
     accept-rest _ _ _ (omega arith) (record { some = omega arith; within = omega arith; most = omega arith })
-    (sym (c .before .before .within-span .ensures) ∙ not-false _ (c .before .if4 .left)) (c .groups-right .ensures)))
+    (met (c .before .before .within-span .ensures) (c .before .if4 .left)) (c .groups-right .ensures)))

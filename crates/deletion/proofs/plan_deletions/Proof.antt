@@ -1,7 +1,7 @@
 -- `deletion::plan_deletions` meets its contract.
 -- Assumes nothing.
-use mathlib.Core.Path.{sym, _∙_}
-use borrow.Author.Tests.{not-true, not-false}
+use mathlib.Core.Path.{_∙_}
+use Rattle.model.proofs.Counted.{met, missed}
 use Rattle.deletion.specs.Striking.{struckOf}
 use Rattle.deletion.proofs.Planning.{no-block, no-deletions, some-deletions}
 use borrow.Author.Needs.{needs}
@@ -15,10 +15,10 @@ plan-deletions-spec =
     (tie.spec
     (λ c κs. search needs)
     (λ c.
-    let s = no-block _ _ _ _ _ (sym (c .before .block-fits .ensures) ∙ not-true _ (c .if1 .taken)) in
+    let s = no-block _ _ _ _ _ (missed (c .before .block-fits .ensures) (c .if1 .taken)) in
     (s .answer, (s .output, s .workspace)))
     (λ c.
-    let s = no-deletions _ _ _ _ _ (sym (c .before .before .block-fits .ensures) ∙ not-false _ (c .before .if1 .left)) (c .if2 .taken) in
+    let s = no-deletions _ _ _ _ _ (met (c .before .before .block-fits .ensures) (c .before .if1 .left)) (c .if2 .taken) in
     (s .answer, (s .output, s .workspace)))
     (λ c κs. search needs)
     (λ c κs. search needs)
@@ -28,5 +28,5 @@ plan-deletions-spec =
     (λ c.
     let start = c .before .before .before .before .before .before .before .before in
     let plan = c .before .before .before .before .before .plan-ordinals .ensures in
-    let s = some-deletions _ _ _ _ _ (sym (start .before .before .before .block-fits .ensures) ∙ not-false _ (start .before .before .if1 .left)) (start .before .if2 .left) (start .body-limit .ensures) (c .of-planned .ensures ∙ plan .0) (plan .1 .0) (plan .1 .1) in
+    let s = some-deletions _ _ _ _ _ (met (start .before .before .before .block-fits .ensures) (start .before .before .if1 .left)) (start .before .if2 .left) (start .body-limit .ensures) (c .of-planned .ensures ∙ plan .0) (plan .1 .0) (plan .1 .1) in
     (s .answer, (s .output, s .workspace))))

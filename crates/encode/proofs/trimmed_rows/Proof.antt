@@ -3,7 +3,8 @@
 use mathlib.Core.Path.{refl}
 use native.Mathlib.Omega.{arith}
 use borrow.Author.Needs.{needs}
-use Rattle.encode.proofs.Wholes.{rising-ends, ends-in, bitmap-own, missing-own, bitmap-head, missing-head, rest-room, both-written}
+use Rattle.model.proofs.Rising.{rising-ends}
+use Rattle.encode.proofs.Wholes.{ends-in, bitmap-own, missing-own, bitmap-head, missing-head, rest-room, both-written}
 use Rattle.encode.proofs.trimmed_rows.Statement.{statement}
 use Rattle.encode.proofs.trimmed_rows.Tie as tie
 
@@ -22,7 +23,7 @@ trimmed-rows-spec =
     (λ c κs.
     let g = c .before .before .before .before .before .before .before .before .before .before .before .before .pre in
     let x = c .before .before .before .before .before .before in
-    (rising-ends (g .0 .rising) (g .0 .some) (x .extent .ensures), g .1, rest-room _ _ (bitmap-own _ _ (g .0) (x .before .before .position .ensures) (x .extent .ensures) refl (c .before .before .before .before .before .if1 .taken)) (c .before .before .before .bitmap-header .ensures) (g .2)))
+    (rising-ends (g .0 .rising) (x .extent .ensures), g .1, rest-room _ _ (bitmap-own _ _ (g .0) (x .before .before .position .ensures) (x .extent .ensures) refl (c .before .before .before .before .before .if1 .taken)) (c .before .before .before .bitmap-header .ensures) (g .2)))
     (λ c. search needs)
     (λ c.
     let g = c .before .before .before .before .before .before .before .before .before .before .before .before .before .before .before .pre in
@@ -33,7 +34,7 @@ trimmed-rows-spec =
     (λ c κs.
     let g = c .before .before .before .before .before .before .before .before .before .before .before .before .pre in
     let x = c .before .before .before .before .before .before in
-    (rising-ends (g .0 .rising) (g .0 .some) (x .extent .ensures), g .1, rest-room _ _ (missing-own _ _ (g .0) (x .before .before .position .ensures) (x .extent .ensures) refl (c .before .before .before .before .before .if1 .left)) (c .before .before .before .missing-header .ensures) (g .2)))
+    (rising-ends (g .0 .rising) (x .extent .ensures), g .1, rest-room _ _ (missing-own _ _ (g .0) (x .before .before .position .ensures) (x .extent .ensures) refl (c .before .before .before .before .before .if1 .left)) (c .before .before .before .missing-header .ensures) (g .2)))
     (λ c. search needs)
     (λ c.
     let g = c .before .before .before .before .before .before .before .before .before .before .before .before .before .before .before .pre in

@@ -1,9 +1,9 @@
 -- `rowset::validate` meets its contract.
 -- Assumes nothing.
-use mathlib.Core.Path.{sym, _∙_}
-use borrow.Author.Tests.{not-true, not-false}
+use mathlib.Core.Path.{sym}
 use Rattle.rowset.specs.Calls.{checkedOf, validateOf, asked}
 use Rattle.model.proofs.Tests.{pick-true, pick-false}
+use Rattle.model.proofs.Counted.{met, missed}
 use borrow.Author.Needs.{needs}
 use Rattle.rowset.proofs.validate.Statement.{statement}
 use Rattle.rowset.proofs.validate.Tie as tie
@@ -14,6 +14,6 @@ validate-spec =
     tie.close
     (tie.spec
     (λ c κs. search needs)
-    (λ c. sym (pick-false _ _ (sym (c .before .check .ensures) ∙ not-true _ (c .if1 .taken))))
-    (λ c κs. sym (c .before .check .ensures) ∙ not-false _ (c .if1 .left))
-    (λ c. rw (c .count .ensures) (sym (pick-true _ _ (sym (c .before .before .check .ensures) ∙ not-false _ (c .before .if1 .left))))))
+    (λ c. sym (pick-false _ _ (missed (c .before .check .ensures) (c .if1 .taken))))
+    (λ c κs. met (c .before .check .ensures) (c .if1 .left))
+    (λ c. rw (c .count .ensures) (sym (pick-true _ _ (met (c .before .before .check .ensures) (c .before .if1 .left))))))

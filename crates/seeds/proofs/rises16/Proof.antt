@@ -6,8 +6,8 @@ use native.Mathlib.Omega.{arith}
 use borrow.Author.Needs.{needs}
 use lib.ListN.{length}
 use Rattle.model.specs.Tests.{all}
+use Rattle.model.proofs.Counted.{flag-step}
 use Rattle.gather.specs.Gather.{upAt, rises}
-use Rattle.seeds.proofs.Ends.{flag-step}
 use Rattle.seeds.proofs.rises16.Statement.{statement}
 use Rattle.seeds.proofs.rises16.Tie as tie
 
@@ -33,7 +33,7 @@ rises16-spec =
     (λ c. search needs)
     (λ c. search needs)
     (λ c. search needs)
-    (λ c. let k = c .before .before .before in (omega arith, flag-step (upAt (k .before .args .ordinals .now)) (k .loop .i) (k .loop .ok) (k .loop .inv .1)))
+    (λ c. let k = c .before .before .before in (omega arith, flag-step (upAt (k .before .args .ordinals .now)) (k .loop .i) (k .loop .inv .1) refl))
     (λ c.
     let e : c .before .loop .i ≡ length (c .before .before .args .ordinals .now) - 1 = omega arith in
     rw (c .before .loop .inv .1, e)))

@@ -1,8 +1,8 @@
 -- `seeds::rows_early` meets its contract.
 -- Assumes nothing.
 use borrow.Author.Needs.{needs}
+use Rattle.model.proofs.Counted.{met, missed}
 use Rattle.planning.specs.Refusals.{countFits}
-use Rattle.seeds.proofs.Ends.{met, missed}
 use Rattle.seeds.proofs.Judging.{count-some, seeds-few, fails-1, fails-2, fails-3, fails-4, last-judges}
 use Rattle.seeds.proofs.rows_early.Statement.{statement}
 use Rattle.seeds.proofs.rows_early.Tie as tie

@@ -1,7 +1,8 @@
 -- `seeds::seeds_fit` meets its contract.
 -- Assumes nothing.
 use borrow.Author.Needs.{needs}
-use Rattle.seeds.proofs.Ends.{met, missed, unfit, fit-by}
+use Rattle.model.proofs.Counted.{met, missed}
+use Rattle.seeds.proofs.Ends.{unfit, fit-by}
 use Rattle.seeds.proofs.seeds_fit.Statement.{statement}
 use Rattle.seeds.proofs.seeds_fit.Tie as tie
 

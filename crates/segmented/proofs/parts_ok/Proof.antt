@@ -4,9 +4,10 @@ use mathlib.Core.Path.{_≡_, refl}
 use Prim.Native.Nat.{_≤_, _-_}
 use native.Mathlib.Omega.{arith}
 use Rattle.model.specs.Tests.{all}
+use Rattle.model.proofs.Counted.{flag-step}
 use Rattle.directory.proofs.Parts.{accepts-directory}
 use Rattle.segmented.specs.Segmented.{partAccepts}
-use Rattle.segmented.proofs.Laws.{parts-next, parts-end}
+use Rattle.segmented.proofs.Laws.{parts-end}
 use Rattle.segmented.proofs.parts_ok.Statement.{statement}
 use Rattle.segmented.proofs.parts_ok.Tie as tie
 
@@ -28,5 +29,5 @@ parts-ok-spec =
     (λ c κs. (c .before .before .before .before .pre, omega (arith, c .before .before .segments .ensures .0)))
     (λ c. omega arith)
     (λ c. omega arith)
-    (λ c. (omega arith, parts-next _ _ (c .before .before .loop .inv .1) (c .part-ok .ensures)))
+    (λ c. (omega arith, flag-step (partAccepts _) _ (c .before .before .loop .inv .1) (c .part-ok .ensures)))
     (λ c. parts-end _ (c .before .loop .inv .0) (c .loop-test .left) (c .before .before .segments .ensures .0) (c .before .loop .inv .1)))

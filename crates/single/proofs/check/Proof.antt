@@ -1,8 +1,7 @@
 -- `single::check` meets its contract.
 -- Assumes nothing.
-use mathlib.Core.Path.{sym, _∙_}
 use native.Mathlib.Omega.{arith}
-use borrow.Author.Tests.{not-true, not-false}
+use Rattle.model.proofs.Counted.{met, missed}
 use Rattle.single.proofs.Laws.{single-short, single-fields, single-view}
 use borrow.Author.Needs.{needs}
 use Rattle.single.proofs.check.Statement.{statement}
@@ -15,7 +14,7 @@ check-spec =
     (λ c κs. search needs)
     (λ c. single-short _ _ _ (omega arith))
     (λ c κs. search needs)
-    (λ c. single-fields _ _ _ (sym (c .before .fields-ok .ensures) ∙ not-true _ (c .if2 .taken)))
+    (λ c. single-fields _ _ _ (missed (c .before .fields-ok .ensures) (c .if2 .taken)))
     (λ c κs. search needs)
     (λ c κs. search needs)
-    (λ c. single-view _ _ _ (sym (c .before .before .before .fields-ok .ensures) ∙ not-false _ (c .before .before .if2 .left)) (c .before .parse .ensures) (c .view-ok .ensures)))
+    (λ c. single-view _ _ _ (met (c .before .before .before .fields-ok .ensures) (c .before .before .if2 .left)) (c .before .parse .ensures) (c .view-ok .ensures)))

@@ -1,7 +1,6 @@
 -- `single::view_ok` meets its contract, test by test.
 -- Assumes nothing.
-use mathlib.Core.Path.{sym, _∙_}
-use borrow.Author.Tests.{not-true, not-false}
+use Rattle.model.proofs.Counted.{met, missed}
 use Rattle.single.proofs.Laws.{view-short, view-wide, view-refused, view-ends, view-plain}
 use borrow.Author.Needs.{needs}
 use Rattle.single.proofs.view_ok.Statement.{statement}
@@ -20,7 +19,7 @@ view-ok-spec =
     (λ c. search needs)
     (λ c. search needs)
     (λ c κs. search needs)
-    (λ c. view-refused _ _ _ (c .before .before .before .before .before .before .if1 .left) (c .before .before .before .if2 .left) (sym (c .before .check .ensures) ∙ not-true _ (c .if3 .taken)))
-    (λ c κs. sym (c .before .before .check .ensures) ∙ not-false _ (c .before .if3 .left))
-    (λ c. view-ends _ _ _ (c .before .before .before .before .before .before .before .before .if1 .left) (c .before .before .before .before .before .if2 .left) (sym (c .before .before .before .check .ensures) ∙ not-false _ (c .before .before .if3 .left)) (c .before .if4 .taken) (c .ends .ensures))
-    (λ c. view-plain _ _ _ (c .before .before .before .before .before .before .before .if1 .left) (c .before .before .before .before .if2 .left) (sym (c .before .before .check .ensures) ∙ not-false _ (c .before .if3 .left)) (c .if4 .left)))
+    (λ c. view-refused _ _ _ (c .before .before .before .before .before .before .if1 .left) (c .before .before .before .if2 .left) (missed (c .before .check .ensures) (c .if3 .taken)))
+    (λ c κs. met (c .before .before .check .ensures) (c .before .if3 .left))
+    (λ c. view-ends _ _ _ (c .before .before .before .before .before .before .before .before .if1 .left) (c .before .before .before .before .before .if2 .left) (met (c .before .before .before .check .ensures) (c .before .before .if3 .left)) (c .before .if4 .taken) (c .ends .ensures))
+    (λ c. view-plain _ _ _ (c .before .before .before .before .before .before .before .if1 .left) (c .before .before .before .before .if2 .left) (met (c .before .before .check .ensures) (c .before .if3 .left)) (c .if4 .left)))
