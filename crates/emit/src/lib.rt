@@ -1,4 +1,4 @@
-// Bodies from rows, written into a lent slice. Everything that writes answers the place behind what it wrote.
+// Bodies from rows, written into a lent slice. What writes a layout, or a part of one, answers the place behind it.
 // Here is what rows of either width share; the loops over u64 rows and over u16 ordinals are modules.
 ghost use mathlib.Core.Path.{_≡_};
 ghost use mathlib.Core.List.{[], _∷_};

@@ -170,18 +170,27 @@ fn ahead_of16(ordinals: &[u16], next: usize, ahead: Outlook) -> Outlook
     requires { ⌜ (Spaced (now ordinals)) × (Sight (now ordinals) ahead) × (next ≤ ahead .stop) × (next < length (now ordinals)) ⌝ }
     ensures { λ r. ⌜ (Sight (now (ordinals .entry)) r) × (next < r .stop) ⌝ }
 {
-    if next < ahead.stop {
-        if ahead.start < ahead.stop {
-            return ahead;
-        }
-        if next + 64 <= ahead.stop {
-            return ahead;
-        }
+    if ahead.stop <= next {
+        let seen = look16(ordinals, next);
+        return Outlook {
+            start: seen.start,
+            stop: seen.stop,
+        };
+    }
+    if ahead.start < ahead.stop {
+        return ahead;
+    }
+    if next + 64 <= ahead.stop {
+        return ahead;
     }
     if ordinals.len() <= ahead.stop {
         return ahead;
     }
-    look16(ordinals, ahead.stop)
+    let seen = look16(ordinals, ahead.stop);
+    Outlook {
+        start: seen.start,
+        stop: seen.stop,
+    }
 }
 
 // The word k with its rows before the run ahead, digit by digit.

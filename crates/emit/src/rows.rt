@@ -165,23 +165,33 @@ fn look(rows: &[u64], from: usize) -> Outlook
 }
 
 // What is known of the rows ahead of the one of index next: as before while it is in a run or before one. If no run is in sight, the
-// next look is due when fewer than 64 rows are left of those that were looked at: a word has no more.
+// next look is due when fewer than 64 rows are left of those that were looked at: a word has no more. What a look answers lies in
+// memory and is copied from there, so that what is known stays in registers where no look is due.
 fn ahead_of(rows: &[u64], next: usize, ahead: Outlook) -> Outlook
     requires { ⌜ (Spaced (now rows)) × (Sight (now rows) ahead) × (next ≤ ahead .stop) × (next < length (now rows)) ⌝ }
     ensures { λ r. ⌜ (Sight (now (rows .entry)) r) × (next < r .stop) ⌝ }
 {
-    if next < ahead.stop {
-        if ahead.start < ahead.stop {
-            return ahead;
-        }
-        if next + 64 <= ahead.stop {
-            return ahead;
-        }
+    if ahead.stop <= next {
+        let seen = look(rows, next);
+        return Outlook {
+            start: seen.start,
+            stop: seen.stop,
+        };
+    }
+    if ahead.start < ahead.stop {
+        return ahead;
+    }
+    if next + 64 <= ahead.stop {
+        return ahead;
     }
     if rows.len() <= ahead.stop {
         return ahead;
     }
-    look(rows, ahead.stop)
+    let seen = look(rows, ahead.stop);
+    Outlook {
+        start: seen.start,
+        stop: seen.stop,
+    }
 }
 
 // The word k with its rows before the run ahead, digit by digit.
