@@ -4,16 +4,16 @@ use mathlib.Core.Path.{_≡_, refl, sym, _∙_}
 use mathlib.Core.Bool.{Bool, true, false}
 use mathlib.Core.Logic.{⊎-elim}
 use mathlib.Core.List.{List}
-use Prim.Native.Nat.{ℕ, zero, suc, _+_, _-_, _/_, _≤_}
+use Prim.Native.Nat.{ℕ, zero, suc, _+_, _-_, _/_, _<_, _≤_}
 use native.Mathlib.Omega.{arith}
 use lib.Dec.{eqb, ltb}
 use lib.ListN.{length, length-set}
-use borrow.Author.Tests.{ltb-false, le-ltb, eqb-true, eqb-false, eq-eqb, ne-eqb}
+use borrow.Author.Tests.{ltb-true, ltb-false, lt-ltb, le-ltb, eqb-true, eqb-false, eq-eqb, ne-eqb}
 use Rattle.model.specs.Tests.{pick}
 use Rattle.model.specs.Answers.{accepted, refused}
 use Rattle.model.proofs.Tests.{either, never, pick-true, pick-false}
 use Rattle.gather.specs.declared.Gatherer.{Gatherer}
-use Rattle.gather.specs.Gather.{valuesOf, answered, kept, impossible, above, early, late, orElse, joins, added, addedTo, rowNumber, Counted}
+use Rattle.gather.specs.Gather.{valuesOf, answered, kept, impossible, above, early, late, orElse, joins, added, addedTo, rowNumber, Counted, Follows, GoesOn}
 
 -- ---- a chain of tests that came out 0, or false
 
@@ -184,3 +184,57 @@ unfolding rowNumber
 row-admitted g room row e =
     let a = neither _ _ e in
     (passed g room (above g row) 1 (a .0) .counted, fits (added g row) room (a .1))
+
+pub last-above : (g : Gatherer) (row : ℕ) → (g .rows ≡ 0 → ⊥) → g .last < row → above g row ≡ true
+unfolding above
+last-above g row n l = pick-false _ _ (ne-eqb (g .rows) 0 n) ∙ lt-ltb (g .last) row l
+
+pub above-last : (g : Gatherer) (row : ℕ) → above g row ≡ true → (g .rows ≡ 0 → ⊥) → g .last < row
+unfolding above
+above-last g row e n = ltb-true (g .last) row (sym (pick-false _ _ (ne-eqb (g .rows) 0 n)) ∙ e)
+
+-- ---- what the quick tests find
+
+module _ (g : Gatherer) (room row : ℕ) where
+  pub follows : Able g room → 1 ≤ g .entries → g .rows ≤ 65534 → g .last < row → Follows g room row
+  follows a some few l =
+      let up = last-above g row (λ z. omega (arith, a .in-rows)) l in
+      record { some = some; number = passing g room (above g row) 1 (record { able = a; rises = up; counted = record { few = omega arith; in-rows = a .in-rows; some = a .some } }) }
+
+  module _ (f : Follows g room row) where
+    -- what the tests that it passed say
+    pub followed : Passed g room (above g row) 1
+    followed = passed g room (above g row) 1 (f .number)
+
+    some-rows : g .rows ≡ 0 → ⊥
+    some-rows z = omega (arith, followed .able .in-rows, f .some)
+
+    pub followed-order : g .first ≤ g .last
+    followed-order = followed .able .ordered some-rows
+
+    pub followed-above : g .last < row
+    followed-above = above-last g row (followed .rises) some-rows
+
+    pub has-room : g .entries < room → rowNumber g room row ≡ 0
+    unfolding rowNumber
+    has-room free = second-decides _ _ (f .number) ∙ fitting (added g row) room (omega (arith, after g row .high))
+
+    pub goes-on : g .first / 4096 ≡ row / 4096 → GoesOn g room row
+    unfolding rowNumber joins
+    goes-on w =
+        let a = followed .able in
+        let j : joins g row ≡ true = pick-false _ _ (ne-eqb (g .rows) 0 some-rows) ∙ eq-eqb _ _ (sym w) in
+        record { in-seed = j; number = second-decides _ _ (f .number) ∙ fitting (added g row) room (rw (added-joins g row j) (a .in-room)) }
+
+    -- in a full table a row that begins a seed has no entry
+    pub no-room : (row / 4096 ≡ g .first / 4096 → ⊥) → room ≤ g .entries → rowNumber g room row ≡ 11
+    unfolding rowNumber joins late
+    no-room w full =
+        let j : joins g row ≡ false = pick-false _ _ (ne-eqb (g .rows) 0 some-rows) ∙ ne-eqb _ _ w in
+        second-decides _ _ (f .number) ∙ pick-true _ _ (lt-ltb room (added g row .entries) (rw (added-begins g row j) (omega arith)))
+
+  -- its entry stands in the table, and its total fits one
+  pub goes-on-fits : GoesOn g room row → (1 ≤ g .entries) × (g .entries ≤ room) × (g .rows + 1 ≤ 65535)
+  goes-on-fits o =
+      let a = row-admitted g room row (o .number) in
+      (a .0 .some (joins-some g row (o .in-seed)), rw (added-joins g row (o .in-seed)) at (a .1), a .0 .few)

@@ -4,22 +4,22 @@ use mathlib.Core.Path.{_≡_, refl, sym, ap, _∙_}
 use mathlib.Core.Bool.{Bool, true, false}
 use mathlib.Core.Logic.{⊎-elim}
 use mathlib.Core.List.{List, [], _∷_}
-use Prim.Native.Nat.{ℕ, zero, suc, _+_, _-_, _<_, _≤_}
-use native.Mathlib.Nat.{suc-add}
+use Prim.Native.Nat.{ℕ, zero, suc, _+_, _≤_}
 use native.Mathlib.Omega.{arith}
 use lib.Dec.{ltb}
 use lib.ListN.{length}
-use borrow.Author.Tests.{ltb-true, ne-eqb}
+use borrow.Author.Tests.{ne-eqb}
 use Rattle.model.specs.Tests.{both, all}
 use Rattle.model.specs.Answers.{Answer, accepted}
-use Rattle.model.proofs.Tests.{either, pick-false, both-true, both-left, both-right, all-at, all-from}
+use Rattle.model.proofs.Tests.{either, pick-false, both-true, both-left, both-right}
 use Rattle.model.proofs.Answers.{same-number}
 use Rattle.gather.specs.declared.Gatherer.{Gatherer}
-use Rattle.gather.specs.Gather.{valuesOf, answered, above, joins, added, addedTo, rowNumber, rowAnswer, rowTable, upAt, rises, firstOf, oneSeed, addedAll, addedAllTo, paged, someNumber, pageAnswer, pageTable, Counted}
+use Rattle.gather.specs.Gather.{valuesOf, answered, above, joins, added, addedTo, rowNumber, rowAnswer, rowTable, rises, firstOf, oneSeed, addedAll, addedAllTo, paged, someNumber, pageAnswer, pageTable, Counted}
+use Rattle.gather.proofs.Climbing.{rises-first, rises-rest, rises-more}
 use Rattle.gather.proofs.Answers.{ofValues}
 use Rattle.gather.proofs.Singly.{entries-grow}
 use Rattle.gather.proofs.Pages.{some-answer, some-table, paged-rows, paged-rows-to}
-use Rattle.gather.proofs.Admitted.{Able, Passed, passed, passing, fits, fitting, neither, second-decides, answered-yes, kept-new, after, added-joins, added-begins, joins-some, added-length}
+use Rattle.gather.proofs.Admitted.{Able, Passed, passed, passing, fits, fitting, neither, second-decides, answered-yes, kept-new, after, added-joins, added-begins, joins-some, added-length, above-last}
 
 -- rows accepted one by one, from a record and a table to the record and the table at the end
 pub data InTurn : Gatherer → List ℕ → List ℕ → Gatherer → List ℕ → Type 0 where
@@ -34,10 +34,6 @@ module _ (g : Gatherer) (room row : ℕ) where
   accepts-row a up c fit =
       second-decides _ _ (passing g room (above g row) 1 (record { able = a; rises = up; counted = c })) ∙ fitting (added g row) room fit
 
-  above-last : above g row ≡ true → (g .rows ≡ 0 → ⊥) → g .last < row
-  unfolding above
-  above-last e n = ltb-true (g .last) row (sym (pick-false _ _ (ne-eqb (g .rows) 0 n)) ∙ e)
-
   -- the record with it in passes test 12 too
   added-able : Able g room → above g row ≡ true → added g row .entries ≤ room → Able (added g row) room
   added-able a up fit =
@@ -48,7 +44,7 @@ module _ (g : Gatherer) (room row : ℕ) where
         some = λ n. f .some (a .some);
         ordered = λ n.
             ⊎-elim
-            (λ e. rw (added-joins g row e) (let k = joins-some g row e in omega (arith, a .ordered k, above-last up k)))
+            (λ e. rw (added-joins g row e) (let k = joins-some g row e in omega (arith, a .ordered k, above-last g row up k)))
             (λ e. rw (added-begins g row e) (omega arith))
             (either (joins g row));
       }
@@ -60,25 +56,7 @@ module _ (g : Gatherer) (room row : ℕ) where
       let f = after g row in
       pick-false _ _ (ne-eqb (added g row .rows) 0 (λ z. omega arith)) ∙ rw (f .newest)
 
--- ---- rows that rise
-
-up-rest : (r : ℕ) (rs : List ℕ) (i : ℕ) → upAt (r ∷ rs) (suc i) ≡ upAt rs i
-unfolding upAt
-up-rest r rs i = rw suc-add
-
-pub rises-rest : (r s : ℕ) (rs : List ℕ) → rises (r ∷ s ∷ rs) ≡ true → (ltb r s ≡ true) × (rises (s ∷ rs) ≡ true)
-unfolding rises upAt
-rises-rest r s rs e =
-    let at = all-at (upAt (r ∷ s ∷ rs)) (length (r ∷ s ∷ rs) - 1) e in
-    (at 0 (omega arith), all-from (upAt (s ∷ rs)) (length (s ∷ rs) - 1) (λ i l. sym (up-rest r (s ∷ rs) i) ∙ at (suc i) (omega arith)))
-
-pub rises-more : (r s : ℕ) (rs : List ℕ) → ltb r s ≡ true → rises (s ∷ rs) ≡ true → rises (r ∷ s ∷ rs) ≡ true
-unfolding rises upAt
-rises-more r s rs l e = all-from (upAt (r ∷ s ∷ rs)) (length (r ∷ s ∷ rs) - 1) each
-  where
-    each : (i : ℕ) → i < length (r ∷ s ∷ rs) - 1 → upAt (r ∷ s ∷ rs) i ≡ true
-    each zero h = l
-    each (suc i) h = up-rest r (s ∷ rs) i ∙ all-at (upAt (s ∷ rs)) (length (s ∷ rs) - 1) e i (omega arith)
+-- ---- rows that rise from above the last row
 
 -- a page's test 3
 abbrev pub climbs : Gatherer → List ℕ → Bool
@@ -86,11 +64,11 @@ climbs g rows = both (above g (firstOf rows)) (rises rows)
 
 climbs-rest : (g : Gatherer) (r s : ℕ) (rs : List ℕ) → climbs g (r ∷ s ∷ rs) ≡ true → climbs (added g r) (s ∷ rs) ≡ true
 climbs-rest g r s rs e =
-    let a = rises-rest r s rs (both-right _ _ e) in
-    both-true _ _ (above-added g 0 r s ∙ a .0) (a .1)
+    let a = both-right _ _ e in
+    both-true _ _ (above-added g 0 r s ∙ rises-first r (s ∷ rs) (omega arith) a) (rises-rest r (s ∷ rs) a)
 
 climbs-more : (g : Gatherer) (r s : ℕ) (rs : List ℕ) → above g r ≡ true → climbs (added g r) (s ∷ rs) ≡ true → climbs g (r ∷ s ∷ rs) ≡ true
-climbs-more g r s rs up e = both-true _ _ up (rises-more r s rs (sym (above-added g 0 r s) ∙ both-left _ _ e) (both-right _ _ e))
+climbs-more g r s rs up e = both-true _ _ up (rises-more r (s ∷ rs) (sym (above-added g 0 r s) ∙ both-left _ _ e) (both-right _ _ e))
 
 -- what the tests of a page of rows that are added singly ask
 pub record Taken (g : Gatherer) (t rows : List ℕ) : Type 0 where

@@ -1,5 +1,6 @@
 pub mod Admitted
 pub mod Singly
+pub mod Climbing
 pub mod Steps
 pub mod Pages
 pub mod Answers

@@ -1,18 +1,19 @@
 -- A page: empty or not, one seed or row by row, and what holds where no test refused it.
 -- Assumes nothing.
-use mathlib.Core.Path.{_≡_, refl}
+use mathlib.Core.Path.{_≡_, refl, _∙_}
 use mathlib.Core.Bool.{true, false}
 use mathlib.Core.Logic.{⊎-elim}
-use mathlib.Core.List.{List}
+use mathlib.Core.List.{List, _∷_}
 use Prim.Native.Nat.{ℕ, zero, suc, _+_, _<_, _≤_}
 use native.Mathlib.Omega.{arith}
 use lib.ListN.{length, set}
-use borrow.Author.Tests.{eq-eqb, ne-eqb}
+use borrow.Author.Tests.{ltb-true, eq-eqb, ne-eqb}
 use Rattle.model.specs.Tests.{pick}
-use Rattle.model.proofs.Tests.{either, pick-true, pick-false}
+use Rattle.model.proofs.Tests.{either, pick-true, pick-false, both-true}
 use Rattle.gather.specs.declared.Gatherer.{Gatherer}
-use Rattle.gather.specs.Gather.{answered, kept, impossible, oneSeed, addedAll, addedAllTo, seeded, paged, pagedTo, someNumber, pageNumber, pageAnswer, pageTable, Paging}
-use Rattle.gather.proofs.Admitted.{neither, passed, fits}
+use Rattle.gather.specs.Gather.{answered, kept, impossible, rises, firstOf, oneSeed, addedAll, addedAllTo, seeded, paged, pagedTo, someNumber, pageNumber, pageAnswer, pageTable, Counted, Paging, GoesIn}
+use Rattle.gather.proofs.Admitted.{Able, neither, passed, passing, fits, fitting, second-decides, last-above}
+use Rattle.gather.proofs.Climbing.{rises-first, rises-rest}
 use Rattle.gather.proofs.Singly.{entries-few}
 
 kept-same : (k : ℕ) (t : List ℕ) → kept k t t ≡ t
@@ -30,7 +31,7 @@ module _ (g : Gatherer) (rows : List ℕ) (e : length rows ≡ 0) where
   empty-table t = rw (pick-true _ _ (eq-eqb (length rows) 0 e)) (kept-same (pageNumber g (length t) rows) t)
 
 module _ (g : Gatherer) (rows : List ℕ) (n : length rows ≡ 0 → ⊥) where
-  some-number : (room : ℕ) → pageNumber g room rows ≡ someNumber g room rows
+  pub some-number : (room : ℕ) → pageNumber g room rows ≡ someNumber g room rows
   unfolding pageNumber
   some-number room = pick-false _ _ (ne-eqb (length rows) 0 n)
 
@@ -71,3 +72,15 @@ module _ (g : Gatherer) (rows : List ℕ) where
   pub paged-few : 0 < length rows → paged g rows .entries ≤ g .entries + length rows
   unfolding seeded
   paged-few some = ⊎-elim (λ e. rw (paged-one e) (omega arith)) (λ e. rw (paged-rows e) (entries-few rows g)) (either (oneSeed rows))
+
+  -- a page that goes in as one seed behind others
+  pub goes-in : (room : ℕ) → 0 < length rows → Able g room → 1 ≤ g .entries → g .entries < room → g .rows + length rows ≤ 65535 → oneSeed rows ≡ true → rises (g .last ∷ rows) ≡ true → GoesIn g room rows
+  unfolding someNumber seeded
+  goes-in room any a some free few o r =
+      let up = last-above g (firstOf rows) (λ z. omega (arith, a .in-rows)) (ltb-true _ _ (rises-first (g .last) rows any r)) in
+      let k : Counted g (length rows) = record { few = few; in-rows = a .in-rows; some = a .some } in
+      record {
+        any = any;
+        one = o;
+        number = second-decides _ _ (passing g room _ (length rows) (record { able = a; rises = both-true _ _ up (rises-rest (g .last) rows r); counted = k })) ∙ fitting (paged g rows) room (rw (paged-one o) (omega arith));
+      }

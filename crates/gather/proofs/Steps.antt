@@ -1,17 +1,18 @@
 -- Few rows that rise by small steps, where their sum is seen not to wrap around, rise.
 -- Assumes nothing.
-use mathlib.Core.Path.{_≡_, refl}
+use mathlib.Core.Path.{_≡_, refl, sym}
 use mathlib.Core.Bool.{true}
 use mathlib.Core.Logic.{_⊎_, inl, inr, ⊎-elim}
-use mathlib.Core.List.{List}
+use mathlib.Core.List.{List, _∷_}
 use Prim.Native.Nat.{ℕ, zero, suc, _+_, _-_, _*_, _%_, _^_, _<_, _≤_}
 use native.Mathlib.Numerals.{add-one}
 use native.Mathlib.Omega.{arith}
 use lib.Bits.{bitAnd, and-le-l, and-le-r}
-use lib.ListN.{length, getD}
+use lib.ListN.{length, getD, drop, length-drop}
+use lib.Seq.{getD-drop}
 use borrow.Author.Tests.{lt-ltb}
 use Rattle.model.specs.Tests.{all}
-use Rattle.model.proofs.Tests.{order, last-or-before, both-true}
+use Rattle.model.proofs.Tests.{order, last-or-before, same-or-not, both-true}
 use Rattle.gather.specs.Gather.{upAt, rises, firstOf, lastOf}
 use Rattle.gather.specs.Steps.{Up, Step, Stepped}
 
@@ -27,7 +28,7 @@ pub stepped-none : (least : ℕ) (rows : List ℕ) → Stepped least rows 0
 stepped-none least rows = record { step = λ i h. absurd (omega arith) }
 
 -- one step more
-pub stepped-more : (least d : ℕ) (rows : List ℕ) (n : ℕ) → getD rows (n + 1) 0 < 2 ^ 64 → d < 2 ^ 64 → (d + getD rows (n + 1) 0) % 2 ^ 64 ≡ getD rows n 0
+stepped-more : (least d : ℕ) (rows : List ℕ) (n : ℕ) → getD rows (n + 1) 0 < 2 ^ 64 → d < 2 ^ 64 → (d + getD rows (n + 1) 0) % 2 ^ 64 ≡ getD rows n 0
     → Stepped least rows n → Stepped (bitAnd least d) rows (n + 1)
 stepped-more least d rows n hb hd e s = record {
   step = λ i h.
@@ -56,3 +57,33 @@ module _ (least : ℕ) (near : 2 ^ 64 - 2 ^ 48 ≤ least) (rows : List ℕ) wher
   pub rises-so : length rows ≤ 65536 → Stepped least rows (length rows - 1) → firstOf rows ≤ lastOf rows → rises rows ≡ true
   unfolding rises
   rises-so few s up = ⊎-elim (λ g. g .0) (λ g. absurd (omega arith)) (gone (length rows - 1) s)
+
+-- ---- behind a number, the rows from an index on
+
+module _ (x : ℕ) (rows : List ℕ) where
+  pub behind-at : (from i : ℕ) → from ≤ i → getD (x ∷ drop from rows) (i - from + 1) 0 ≡ getD rows i 0
+  behind-at from i h =
+      let e : from + (i - from) ≡ i = omega arith in
+      rw (add-one (i - from), getD-drop from rows (i - from) 0, e)
+
+  pub behind-length : (from : ℕ) → length (x ∷ drop from rows) - 1 ≡ length rows - from
+  behind-length from = omega (arith, length-drop from rows)
+
+  pub behind-last : (from : ℕ) → from ≤ length rows → x ≤ lastOf rows → x ≤ lastOf (x ∷ drop from rows)
+  behind-last from h l = rw (behind-length from) (⊎-elim none some (same-or-not (length rows - from) 0))
+    where
+      none : length rows - from ≡ 0 → x ≤ getD (x ∷ drop from rows) (length rows - from) 0
+      none z = rw z (omega arith)
+
+      some : (length rows - from ≡ 0 → ⊥) → x ≤ getD (x ∷ drop from rows) (length rows - from) 0
+      some z =
+          let e : length rows - from ≡ length rows - 1 - from + 1 = omega arith in
+          rw (e, behind-at from (length rows - 1) (omega arith)) l
+
+  -- from the row at i on to the next
+  pub behind-more : (least d from i : ℕ) → from ≤ i → getD rows i 0 < 2 ^ 64 → d < 2 ^ 64 → (d + getD rows i 0) % 2 ^ 64 ≡ getD (x ∷ drop from rows) (i - from) 0 → Stepped least (x ∷ drop from rows) (i - from)
+      → (getD rows i 0 ≡ getD (x ∷ drop from rows) (i + 1 - from) 0) × Stepped (bitAnd least d) (x ∷ drop from rows) (i + 1 - from)
+  behind-more least d from i h hb hd e s =
+      let n : i + 1 - from ≡ i - from + 1 = omega arith in
+      let g : getD (x ∷ drop from rows) (i - from + 1) 0 ≡ getD rows i 0 = behind-at from i h in
+      rw n (sym g, stepped-more least d (x ∷ drop from rows) (i - from) (rw g hb) hd (rw g e) s)

@@ -150,3 +150,21 @@ pub record Paging (g : Gatherer) (room : ℕ) (rows : List ℕ) : Type 0 where
   pub counted : Counted g (length rows)
   pub any : 0 < length rows
   pub in-room : paged g rows .entries ≤ room
+
+-- ---- what the quick tests find
+
+-- a row that has others before it, and that tests 12, 3 and 2 let pass
+pub record Follows (g : Gatherer) (room row : ℕ) : Type 0 where
+  pub some : 1 ≤ g .entries
+  pub number : early g room (above g row) 1 ≡ 0
+
+-- a row that goes on in the last seed, and that no test refuses
+pub record GoesOn (g : Gatherer) (room row : ℕ) : Type 0 where
+  pub in-seed : joins g row ≡ true
+  pub number : rowNumber g room row ≡ 0
+
+-- a page that goes in as one seed, and that no test refuses
+pub record GoesIn (g : Gatherer) (room : ℕ) (rows : List ℕ) : Type 0 where
+  pub any : 0 < length rows
+  pub one : oneSeed rows ≡ true
+  pub number : someNumber g room rows ≡ 0

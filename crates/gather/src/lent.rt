@@ -5,8 +5,15 @@ ghost use Rattle.gather.specs.Gather.{rowAnswer, rowTable, pageAnswer, p
 ghost use Rattle.gather.specs.Records.{addedAnswer, rowRecord, pageRecord, stepOf};
 use crate::Gathered;
 use crate::Gatherer;
+use crate::above;
+use crate::early;
 use crate::gather_page;
 use crate::gather_row;
+use crate::paging::put_seed;
+use crate::put_row;
+use crate::quick::follows;
+use crate::quick::goes_in;
+use crate::quick::put_on;
 
 // Done, and the lent record is the new one; or the refusal's number, and it is the old one.
 pub enum Added {
@@ -41,8 +48,8 @@ fn taken_apart(old: Gatherer, c: Gathered) -> Step
     }
 }
 
-// `gather_row`, its answer taken apart: `add_row` stands on it, so that nothing branches there.
-fn row_step(g: Gatherer, table: &mut [u16], row: u64) -> Step
+// A row by every test in its order: the answer, and the record that it leaves.
+pub fn tested_row(g: Gatherer, table: &mut [u16], row: u64) -> Step
     ensures { λ r. ⌜ addedAnswer (r .answer) (r .after) ≡ rowAnswer g (length (now (table .entry))) row ⌝ }
     ensures { λ r. ⌜ r .after ≡ rowRecord g (length (now (table .entry))) row ⌝ }
     ensures { λ _. ⌜ now (table .exit) ≡ rowTable g (now (table .entry)) row ⌝ }
@@ -50,13 +57,77 @@ fn row_step(g: Gatherer, table: &mut [u16], row: u64) -> Step
     taken_apart(g, gather_row(g, table, row))
 }
 
-// `gather_page`, its answer taken apart.
-fn page_step(g: Gatherer, table: &mut [u16], rows: &[u64]) -> Step
+// A page by every test in its order.
+pub fn tested_page(g: Gatherer, table: &mut [u16], rows: &[u64]) -> Step
     ensures { λ r. ⌜ addedAnswer (r .answer) (r .after) ≡ pageAnswer g (length (now (table .entry))) (now (rows .entry)) ⌝ }
     ensures { λ r. ⌜ r .after ≡ pageRecord g (length (now (table .entry))) (now (rows .entry)) ⌝ }
     ensures { λ _. ⌜ now (table .exit) ≡ pageTable g (now (table .entry)) (now (rows .entry)) ⌝ }
 {
     taken_apart(g, gather_page(g, table, rows))
+}
+
+// The same record again. What is passed on to a call lies in memory; a copy that is made only there leaves the record itself in
+// registers.
+fn copied(g: Gatherer) -> Gatherer
+    ensures { λ r. ⌜ r ≡ g ⌝ }
+{
+    Gatherer {
+        entries: g.entries,
+        rows: g.rows,
+        first: g.first,
+        last: g.last,
+    }
+}
+
+// What `tested_row` does, with few tests for the rows that most rows are: those that go on in the last seed, and those that
+// begin another where there is room. Behind a record with rows, none but these is accepted.
+fn row_step(g: Gatherer, table: &mut [u16], row: u64) -> Step
+    ensures { λ r. ⌜ addedAnswer (r .answer) (r .after) ≡ rowAnswer g (length (now (table .entry))) row ⌝ }
+    ensures { λ r. ⌜ r .after ≡ rowRecord g (length (now (table .entry))) row ⌝ }
+    ensures { λ _. ⌜ now (table .exit) ≡ rowTable g (now (table .entry)) row ⌝ }
+{
+    let mut answer = Added::Done;
+    let mut after = g;
+    if follows(g, table.len(), row) {
+        if row / 4096 == g.first / 4096 {
+            after = put_on(g, table, row);
+        } else if g.entries < table.len() {
+            after = put_row(g, table, row);
+        } else {
+            answer = Added::Refused(11);
+        }
+    } else if g.entries == 0 {
+        let s = tested_row(g, table, row);
+        answer = s.answer;
+        after = s.after;
+    } else {
+        answer = Added::Refused(early(g, table.len(), above(g, row), 1));
+    }
+    Step {
+        answer: answer,
+        after: after,
+    }
+}
+
+// What `tested_page` does, with few tests for a page that goes in as one seed.
+fn page_step(g: Gatherer, table: &mut [u16], rows: &[u64]) -> Step
+    ensures { λ r. ⌜ addedAnswer (r .answer) (r .after) ≡ pageAnswer g (length (now (table .entry))) (now (rows .entry)) ⌝ }
+    ensures { λ r. ⌜ r .after ≡ pageRecord g (length (now (table .entry))) (now (rows .entry)) ⌝ }
+    ensures { λ _. ⌜ now (table .exit) ≡ pageTable g (now (table .entry)) (now (rows .entry)) ⌝ }
+{
+    let mut answer = Added::Done;
+    let mut after = g;
+    if goes_in(g, table.len(), rows) {
+        after = put_seed(g, table, rows);
+    } else {
+        let s = tested_page(copied(g), table, rows);
+        answer = s.answer;
+        after = s.after;
+    }
+    Step {
+        answer: answer,
+        after: after,
+    }
 }
 
 // One row more, into the lent record and the lent table; or a refusal, and both as they were.

@@ -31,14 +31,14 @@ fn of_step(s: Step) -> Gathered
     }
 }
 
-// ---- by value: over the calls on a lent record, so that the archive has the work once and not behind a struct in memory
+// ---- by value: every test in its order. A record that is passed and answered lies in memory, so few tests less would gain nothing
 
 #[no_mangle]
 pub extern "C" fn pelisafu_gather_row(g: Gatherer, table: &mut [u16], row: u64) -> Gathered
     ensures { λ r. ⌜ r ≡ shownGathered (rowAnswer g (length (now (table .entry))) row) (rowRecord g (length (now (table .entry))) row) ⌝ }
     ensures { λ _. ⌜ now (table .exit) ≡ rowTable g (now (table .entry)) row ⌝ }
 {
-    of_step(gather::lend_row(g, table, row))
+    of_step(gather::tested_row(g, table, row))
 }
 
 #[no_mangle]
@@ -46,7 +46,7 @@ pub extern "C" fn pelisafu_gather_page(g: Gatherer, table: &mut [u16], rows: &[u
     ensures { λ r. ⌜ r ≡ shownGathered (pageAnswer g (length (now (table .entry))) (now (rows .entry))) (pageRecord g (length (now (table .entry))) (now (rows .entry))) ⌝ }
     ensures { λ _. ⌜ now (table .exit) ≡ pageTable g (now (table .entry)) (now (rows .entry)) ⌝ }
 {
-    of_step(gather::lend_page(g, table, rows))
+    of_step(gather::tested_page(g, table, rows))
 }
 
 // ---- lent: the number of the refusal, or 0

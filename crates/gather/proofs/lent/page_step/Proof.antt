@@ -1,21 +1,25 @@
 -- `gather::page_step` meets its contract.
 -- Assumes nothing.
-use mathlib.Core.Path.{_∙_}
+use native.Mathlib.Omega.{arith}
 use borrow.Author.Needs.{needs}
-use Rattle.gather.specs.Gather.{pageAnswer}
-use Rattle.gather.specs.Records.{pageRecord}
-use Rattle.gather.proofs.Taken.{taken-answer, taken-record}
+use Rattle.gather.proofs.Pages.{page-admitted}
+use Rattle.gather.proofs.Taken.{page-done}
 use Rattle.gather.proofs.lent.page_step.Statement.{statement}
 use Rattle.gather.proofs.lent.page_step.Tie as tie
 
 pub page-step-spec : {M : Type 1} → statement M
-unfolding pageAnswer pageRecord
 page-step-spec =
     tie.close
     (tie.spec
     (λ c κs. search needs)
+    (λ c κs.
+    let o = c .before .before .goes-in .ensures (c .before .if1 .taken) in
+    (page-admitted _ _ (λ z. omega (arith, o .any)) _ (o .number), o .one))
+    (λ c κs. search needs)
     (λ c κs. search needs)
     (λ c. search needs)
     (λ c.
-    let k = c .before .before .before .gather-page .ensures in
-    rw (c .taken-apart .ensures) (taken-answer _ _ ∙ k .0, (taken-record _ _ _ _ (k .0), k .1))))
+    let d = c .before .before .before .before in
+    page-done _ _ _ (d .before .goes-in .ensures (d .if1 .taken)) _ _ (c .before .before .put-seed .ensures))
+    (λ c. search needs)
+    (λ c. rw (← c .before .before .before .before .before .copied .ensures) (c .before .before .before .tested-page .ensures)))

@@ -1,9 +1,12 @@
 -- `gather::rises_closely` meets its contract.
 -- Assumes nothing.
 use mathlib.Core.Bool.{false≢true}
+use mathlib.Core.List.{_∷_}
+use native.Mathlib.Omega.{arith}
 use borrow.Author.Needs.{needs}
+use lib.ListN.{drop}
 use borrow.Author.Tests.{leb-true}
-use Rattle.gather.proofs.Steps.{rises-so}
+use Rattle.gather.proofs.Steps.{rises-so, behind-length, behind-last}
 use Rattle.gather.proofs.rising.rises_closely.Statement.{statement}
 use Rattle.gather.proofs.rising.rises_closely.Tie as tie
 
@@ -12,13 +15,14 @@ rises-closely-spec =
     tie.close
     (tie.spec
     (λ c e. absurd (false≢true e))
-    (λ c e. absurd (false≢true e))
     (λ c κs. search needs)
     (λ c e. absurd (false≢true e))
     (λ c. search needs)
     (λ c. search needs)
     (λ c. search needs)
-    (λ c. search needs)
     (λ c e.
-    let d = c .before .before in
-    rises-so (d .before .steps .result) (d .if3 .left) _ (d .before .before .if2 .left) (d .before .steps .ensures) (leb-true _ _ e)))
+    let d = c .before in
+    let s = d .before .before .before .before in
+    let a = s .args in
+    let n = behind-length (a .first) (a .rows .now) (a .from) in
+    rises-so (d .before .steps .result) (d .if2 .left) (a .first ∷ drop (a .from) (a .rows .now)) (omega (arith, n, d .before .before .if1 .left)) (rw n (d .before .steps .ensures)) (behind-last (a .first) (a .rows .now) (a .from) (s .pre .0) (leb-true _ _ e))))

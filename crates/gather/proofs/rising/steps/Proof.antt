@@ -1,20 +1,22 @@
 -- `gather::steps` meets its contract.
 -- Assumes nothing.
 use mathlib.Core.Path.{_≡_, refl, _∙_}
-use Prim.Native.Nat.{_+_, _-_, _≤_}
+use mathlib.Core.List.{_∷_}
+use Prim.Native.Nat.{_-_, _≤_}
 use native.Mathlib.Omega.{arith}
 use borrow.Author.Needs.{needs}
-use lib.ListN.{length, getD}
+use lib.ListN.{length, getD, drop}
 use Rattle.gather.specs.Steps.{Stepped}
-use Rattle.gather.proofs.Steps.{stepped-none, stepped-more}
+use Rattle.gather.proofs.Steps.{stepped-none, behind-more}
 use Rattle.gather.proofs.rising.steps.Statement.{statement}
 use Rattle.gather.proofs.rising.steps.Tie as tie
 
 abbrev Inv-loop : tie.InvT-loop
-Inv-loop rows least₀ before₀ i₀ least before i = (i ≤ length rows - 1) × ((before ≡ getD rows i 0) × Stepped least rows i)
+Inv-loop first rows from least₀ before₀ i₀ least before i =
+    (from ≤ i) × ((i ≤ length rows) × ((before ≡ getD (first ∷ drop from rows) (i - from) 0) × Stepped least (first ∷ drop from rows) (i - from)))
 
 abbrev μ-loop : tie.MeasureT-loop
-μ-loop rows least₀ before₀ i₀ least before i = length rows - i
+μ-loop first rows from least₀ before₀ i₀ least before i = length rows - i
 
 pub steps-spec : {M : Type 1} → statement M
 steps-spec =
@@ -22,10 +24,10 @@ steps-spec =
     (tie.spec
     Inv-loop
     μ-loop
-    (λ c. search needs)
-    (λ c. (omega arith, (refl, stepped-none _ _)))
-    (λ c. search needs)
-    (λ c. search needs)
+    (λ c.
+    let a = c .before .args in
+    let z : a .from - a .from ≡ 0 = omega arith in
+    (omega arith, (c .before .pre, rw z (refl, stepped-none _ (a .first ∷ drop (a .from) (a .rows .now))))))
     (λ c. search needs)
     (λ c. search needs)
     (λ c κs. search needs)
@@ -34,7 +36,7 @@ steps-spec =
     (λ c.
     let l = c .before .before .before .loop in
     let d = c .wrapping-sub-u64 in
-    (omega arith, (refl, stepped-more (l .least) (d .result) _ (l .i) (c .before .shared-slice-known3 .given (l .i + 1) .fits) (d .ok) (d .ensures ∙ l .inv .1 .0) (l .inv .1 .1))))
+    (omega (arith, l .inv .0), (omega arith, behind-more _ _ _ _ _ (l .i) (l .inv .0) (c .before .shared-slice-known2 .given (l .i) .fits) (d .ok) (d .ensures ∙ l .inv .1 .1 .0) (l .inv .1 .1 .1))))
     (λ c.
-    let e : c .before .loop .i ≡ length (c .before .before .before .before .args .rows .now) - 1 = omega arith in
-    rw e at (c .before .loop .inv .1 .1)))
+    let e : c .before .loop .i ≡ length (c .before .before .before .args .rows .now) = omega (arith, c .before .loop .inv .1 .0) in
+    rw e at (c .before .loop .inv .1 .1 .1)))

@@ -13,5 +13,5 @@ pelisafu-gather-page-spec =
     (λ c κs. search needs)
     (λ c. search needs)
     (λ c.
-    let k = c .before .before .before .lend-page .ensures in
+    let k = c .before .before .before .tested-page .ensures in
     (rw (c .of-step .ensures, k .0, k .1 .0) (refl), k .1 .1)))

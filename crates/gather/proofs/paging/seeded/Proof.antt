@@ -3,8 +3,8 @@
 use mathlib.Core.Path.{refl}
 use borrow.Author.Needs.{needs}
 use Rattle.gather.specs.Gather.{seeded}
-use Rattle.gather.proofs.seeded.Statement.{statement}
-use Rattle.gather.proofs.seeded.Tie as tie
+use Rattle.gather.proofs.paging.seeded.Statement.{statement}
+use Rattle.gather.proofs.paging.seeded.Tie as tie
 
 pub seeded-spec : {M : Type 1} → statement M
 unfolding seeded

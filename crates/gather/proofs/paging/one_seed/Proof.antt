@@ -6,8 +6,8 @@ use native.Mathlib.Omega.{arith}
 use borrow.Author.Needs.{needs}
 use borrow.Author.Tests.{lt-ltb}
 use Rattle.gather.specs.Gather.{oneSeed, firstOf, lastOf}
-use Rattle.gather.proofs.one_seed.Statement.{statement}
-use Rattle.gather.proofs.one_seed.Tie as tie
+use Rattle.gather.proofs.paging.one_seed.Statement.{statement}
+use Rattle.gather.proofs.paging.one_seed.Tie as tie
 
 pub one-seed-spec : {M : Type 1} → statement M
 unfolding oneSeed

@@ -10,8 +10,8 @@ use Rattle.model.proofs.Counted.{and-both}
 use Rattle.gather.specs.Gather.{above, rises, early, firstOf, someNumber}
 use Rattle.gather.proofs.Admitted.{Passed, passed, fitting, first-refuses, second-decides}
 use Rattle.gather.proofs.Pages.{paged-few}
-use Rattle.gather.proofs.some_number.Statement.{statement}
-use Rattle.gather.proofs.some_number.Tie as tie
+use Rattle.gather.proofs.paging.some_number.Statement.{statement}
+use Rattle.gather.proofs.paging.some_number.Tie as tie
 
 abbrev start : tie.After-early → tie.Start
 start c = c .before .before .before .before .before

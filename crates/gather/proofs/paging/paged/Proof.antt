@@ -3,8 +3,8 @@
 use mathlib.Core.Path.{sym, _∙_}
 use borrow.Author.Needs.{needs}
 use Rattle.gather.proofs.Pages.{paged-one, paged-rows}
-use Rattle.gather.proofs.paged.Statement.{statement}
-use Rattle.gather.proofs.paged.Tie as tie
+use Rattle.gather.proofs.paging.paged.Statement.{statement}
+use Rattle.gather.proofs.paging.paged.Tie as tie
 
 pub paged-spec : {M : Type 1} → statement M
 paged-spec =

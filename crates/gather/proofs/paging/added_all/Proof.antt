@@ -4,8 +4,8 @@ use Prim.Native.Nat.{_-_}
 use borrow.Author.Needs.{needs}
 use lib.ListN.{length}
 use Rattle.gather.proofs.Singly.{Going, going-start, going-counted, going-next, going-end}
-use Rattle.gather.proofs.added_all.Statement.{statement}
-use Rattle.gather.proofs.added_all.Tie as tie
+use Rattle.gather.proofs.paging.added_all.Statement.{statement}
+use Rattle.gather.proofs.paging.added_all.Tie as tie
 
 abbrev Inv-loop : tie.InvT-loop
 Inv-loop rows h₀ i₀ h i = Going rows h₀ h i

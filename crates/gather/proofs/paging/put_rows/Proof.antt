@@ -5,8 +5,8 @@ use native.Mathlib.Nat.{le-trans}
 use borrow.Author.Needs.{needs}
 use lib.ListN.{length}
 use Rattle.gather.proofs.Singly.{Filling, going-counted, going-room, going-end, filling-start, filling-next, filling-end}
-use Rattle.gather.proofs.put_rows.Statement.{statement}
-use Rattle.gather.proofs.put_rows.Tie as tie
+use Rattle.gather.proofs.paging.put_rows.Statement.{statement}
+use Rattle.gather.proofs.paging.put_rows.Tie as tie
 
 abbrev Inv-loop : tie.InvT-loop
 Inv-loop table₀ rows h₀ i₀ table h i = Filling rows table₀ h₀ table h i
