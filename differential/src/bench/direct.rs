@@ -2,13 +2,16 @@
 //! beside guarded pages, which a short call would be measured with.
 
 use crate::pelisafu::calls::{
-    Gathering, pelisafu_add_page, pelisafu_add_row, pelisafu_rank, pelisafu_ranks, pelisafu_select,
-    pelisafu_validate, pelisafu_walk,
+    Gathered, Gathering, pelisafu_add_page, pelisafu_add_row, pelisafu_gather_page,
+    pelisafu_gather_row, pelisafu_rank, pelisafu_ranks, pelisafu_select, pelisafu_validate,
+    pelisafu_walk,
 };
 use crate::pelisafu::plans::{Means, Planned};
 use crate::pelisafu::sections::{
     pelisafu_check_deletions, pelisafu_deleted, pelisafu_plan_deletions, pelisafu_walk_deletions,
 };
+
+use std::hint::black_box;
 
 /// Tag, span and body of a row set that is accepted.
 #[derive(Clone, Copy)]
@@ -93,6 +96,51 @@ pub(super) fn gather_singly(rows: &[u64], table: &mut [u16]) -> usize {
         assert!(number == 0, "rows that rise");
     }
     record.entries
+}
+
+/// Gathers rows in pages of that size, with the record passed and answered by value.
+#[inline]
+pub(super) fn gather_by_value(rows: &[u64], size: usize, table: &mut [u16]) -> usize {
+    let mut record = Gathering::default();
+    let (entries, room) = (table.as_mut_ptr(), table.len());
+    for page in rows.chunks(size) {
+        let (rows, length) = (page.as_ptr(), page.len());
+        let answer = unsafe { pelisafu_gather_page(record, entries, room, rows, length) };
+        assert!(answer.number == 0, "rows that rise");
+        record = answer.record;
+    }
+    record.entries
+}
+
+#[inline]
+pub(super) fn gather_singly_by_value(rows: &[u64], table: &mut [u16]) -> usize {
+    let mut record = Gathering::default();
+    let (entries, room) = (table.as_mut_ptr(), table.len());
+    for row in rows {
+        let answer = unsafe { pelisafu_gather_row(record, entries, room, *row) };
+        assert!(answer.number == 0, "rows that rise");
+        record = answer.record;
+    }
+    record.entries
+}
+
+/// A call with a record by value that does nothing but count: what passing it to and fro takes.
+extern "C" fn counted(record: Gathering, _: *mut u16, _: usize, row: u64) -> Gathered {
+    let record = Gathering { rows: record.rows + 1, last: row, ..record };
+    Gathered { number: 0, record }
+}
+
+#[inline]
+pub(super) fn count_by_value(rows: &[u64], table: &mut [u16]) -> usize {
+    let call: extern "C" fn(Gathering, *mut u16, usize, u64) -> Gathered = black_box(counted);
+    let mut record = Gathering::default();
+    let (entries, room) = (table.as_mut_ptr(), table.len());
+    for row in rows {
+        let answer = call(record, entries, room, *row);
+        assert!(answer.number == 0, "a call that refuses nothing");
+        record = answer.record;
+    }
+    record.rows
 }
 
 /// Row count, block limit, count, tag and body of deletions that are accepted.

@@ -2,7 +2,9 @@
 //! writes into memory that is lent; the original allocates its own, as it does for its callers.
 
 use super::clock::Pair;
-use super::direct::{gather, gather_singly};
+use super::direct::{
+    count_by_value, gather, gather_by_value, gather_singly, gather_singly_by_value,
+};
 use super::meter::{Measured, Meter};
 use super::subject::Subject;
 use crate::case::Case;
@@ -85,6 +87,23 @@ pub(super) fn gathering_small(subject: &Subject, meter: Meter) -> Option<Measure
     gathering_pages_of(16, subject, meter)
 }
 
+pub(super) fn gathering_by_value(subject: &Subject, meter: Meter) -> Option<Measured> {
+    let (mut table, rows) = (vec![1; subject.rows()], &subject.row_ids);
+    let times = meter.pair(
+        || gather_by_value(black_box(&subject.case.rows), PAGE, black_box(&mut table)),
+        || Seeds::in_pages(black_box(rows), PAGE),
+    );
+    Some((times, subject.rows()))
+}
+
+pub(super) fn gathering_singly_by_value(subject: &Subject, meter: Meter) -> Option<Measured> {
+    singly(subject, meter, gather_singly_by_value)
+}
+
+pub(super) fn counting_by_value(subject: &Subject, meter: Meter) -> Option<Measured> {
+    singly(subject, meter, count_by_value)
+}
+
 fn gathering_pages_of(size: usize, subject: &Subject, meter: Meter) -> Option<Measured> {
     let (mut table, rows) = (vec![1; subject.rows()], &subject.row_ids);
     let times = meter.pair(
@@ -95,9 +114,19 @@ fn gathering_pages_of(size: usize, subject: &Subject, meter: Meter) -> Option<Me
 }
 
 pub(super) fn gathering_singly(subject: &Subject, meter: Meter) -> Option<Measured> {
+    singly(subject, meter, gather_singly)
+}
+
+/// Row by row, by any of the calls.
+#[inline]
+fn singly(
+    subject: &Subject,
+    meter: Meter,
+    gather: impl Fn(&[u64], &mut [u16]) -> usize,
+) -> Option<Measured> {
     let (mut table, rows) = (vec![1; subject.rows()], &subject.row_ids);
     let times = meter.pair(
-        || gather_singly(black_box(&subject.case.rows), black_box(&mut table)),
+        || gather(black_box(&subject.case.rows), black_box(&mut table)),
         || Seeds::singly(black_box(rows)),
     );
     Some((times, subject.rows()))

@@ -51,9 +51,9 @@ pub(crate) struct Gathering {
 }
 
 #[repr(C)]
-struct Gathered {
-    number: u8,
-    record: Gathering,
+pub(crate) struct Gathered {
+    pub(crate) number: u8,
+    pub(crate) record: Gathering,
 }
 
 unsafe extern "C" {
@@ -99,8 +99,13 @@ unsafe extern "C" {
         table: *mut Record,
         table_length: usize,
     ) -> Filled;
-    fn pelisafu_gather_row(g: Gathering, table: *mut u16, length: usize, row: u64) -> Gathered;
-    fn pelisafu_gather_page(
+    pub(crate) fn pelisafu_gather_row(
+        g: Gathering,
+        table: *mut u16,
+        length: usize,
+        row: u64,
+    ) -> Gathered;
+    pub(crate) fn pelisafu_gather_page(
         g: Gathering,
         table: *mut u16,
         length: usize,
