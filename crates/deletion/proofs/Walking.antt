@@ -3,19 +3,18 @@
 use mathlib.Core.Path.{_≡_, refl, sym, ap, _∙_}
 use mathlib.Core.Bool.{true}
 use mathlib.Core.Logic.{⊎-elim}
-use mathlib.Core.List.{List, [], _∷_, _++_}
+use mathlib.Core.List.{List, [], _++_}
 use Prim.Native.Nat.{ℕ, _+_, _-_, _<_, _≤_, min}
 use native.Mathlib.Nat.{zero-add}
-use native.Mathlib.Numerals.{add-one}
 use native.Mathlib.Omega.{arith}
 use lib.ListN.{length, getD, take, drop, set, length-append, length-take, length-drop}
-use lib.Seq.{sets, length-sets, take-suc, take-all, take-nil, take-add, take-take, take-append-le, drop-nil, drop-drop, length-take-le, getD-take, getD-drop}
+use lib.Seq.{sets, length-sets, take-all, take-nil, take-add, take-take, take-append-le, drop-nil, drop-drop, length-take-le, getD-take, getD-drop}
 use Rattle.fields.specs.Le.{Bytes}
 use Rattle.model.specs.Lists.{walkOf}
 use Rattle.model.specs.Answers.{over, Walked}
 use Rattle.model.proofs.Tests.{order}
 use Rattle.model.proofs.Rising.{rising-below}
-use Rattle.model.proofs.Sets.{sets-append, sets-front}
+use Rattle.model.proofs.Sets.{sets-append, sets-next, sets-front}
 use Rattle.model.proofs.Writing.{walks-none}
 use Rattle.bodies.specs.Bodies.{accepts, names}
 use Rattle.bodies.proofs.Named.{names-rising}
@@ -36,11 +35,7 @@ module _ {page before out : List ℕ} {at n i : ℕ} (f : Copied page before out
   copied-length = ap length (f .holds) ∙ length-sets before at (take i page)
 
   pub copied-next : i < n → Copied page before (set out (at + i) (getD page i 0)) at n (i + 1)
-  copied-next h =
-      let inside : i < length page = omega (arith, f .inside) in
-      let size : length (take i page) ≡ i = length-take-le i page (omega arith) in
-      let step : take (i + 1) page ≡ take i page ++ (getD page i 0 ∷ []) = rw (add-one i, take-suc page i 0 inside) in
-      record { upto = omega arith; inside = f .inside; room = f .room; holds = rw (step, sets-append, size, f .holds) }
+  copied-next h = record { upto = omega arith; inside = f .inside; room = f .room; holds = rw (f .holds) (sym (sets-next page before at i (omega (arith, f .inside)))) }
 
   pub copied-end : n ≤ i → out ≡ sets before at (take n page)
   copied-end h = let e : i ≡ n = omega (arith, f .upto) in rw e at (f .holds)

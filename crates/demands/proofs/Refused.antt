@@ -21,7 +21,7 @@ use Rattle.rowset.proofs.Asking.{length-ranks}
 use Rattle.tables.specs.Tables.{entriesOf, segmentsAnswer, segmentsLeft}
 use Rattle.gather.specs.declared.Gatherer.{Gatherer}
 use Rattle.gather.specs.Gather.{answered, kept, rowAnswer, rowTable, pageAnswer, pageTable}
-use Rattle.gather.specs.Records.{left, rowRecord, pageRecord}
+use Rattle.gather.specs.Records.{rowRecord, pageRecord}
 use Rattle.planning.specs.Refusals.{endsOf, earlyNumber}
 use Rattle.planning.specs.Planning.{plannedForm, plannedBody, plannedValues, lateNumber, planNumber, planOf, planOut, planWork}
 use Rattle.planning.specs.Planning as planning
@@ -71,24 +71,19 @@ module _ (tag span : ℕ) (body : List ℕ) where
 
 -- ---- gathering: the table, and the record that was lent. That no other entry changes is `row-elsewhere` and `page-elsewhere` of gather
 
-table-kept : (n : ℕ) (g : Gatherer) (old new : List ℕ) → (answered n g .number ≡ 0 → ⊥) → kept n old new ≡ old
+refused-kept : {A : Type 0} (n : ℕ) (g : Gatherer) (old new : A) → (answered n g .number ≡ 0 → ⊥) → kept n old new ≡ old
 unfolding answered kept
-table-kept zero g old new h = absurd (h refl)
-table-kept (suc n) g old new h = refl
-
-record-kept : (n : ℕ) (g old new : Gatherer) → (answered n g .number ≡ 0 → ⊥) → left n old new ≡ old
-unfolding answered left
-record-kept zero g old new h = absurd (h refl)
-record-kept (suc n) g old new h = refl
+refused-kept zero g old new h = absurd (h refl)
+refused-kept (suc n) g old new h = refl
 
 module _ (g : Gatherer) (table : List ℕ) where
   pub row-kept : (row : ℕ) → (rowAnswer g (length table) row .number ≡ 0 → ⊥) → (rowTable g table row ≡ table) × (rowRecord g (length table) row ≡ g)
   unfolding rowAnswer rowTable rowRecord
-  row-kept row h = (table-kept _ _ _ _ h, record-kept _ _ _ _ h)
+  row-kept row h = (refused-kept _ _ _ _ h, refused-kept _ _ _ _ h)
 
   pub page-kept : (rows : List ℕ) → (pageAnswer g (length table) rows .number ≡ 0 → ⊥) → (pageTable g table rows ≡ table) × (pageRecord g (length table) rows ≡ g)
   unfolding pageAnswer pageTable pageRecord
-  page-kept rows h = (table-kept _ _ _ _ h, record-kept _ _ _ _ h)
+  page-kept rows h = (refused-kept _ _ _ _ h, refused-kept _ _ _ _ h)
 
 -- ---- planning
 

@@ -12,9 +12,9 @@ use Rattle.gather.proofs.lent.Added as E
 use Rattle.gather.proofs.lent.Added.Laws as E′
 use Rattle.gather.proofs.lent.Step as S
 use Rattle.gather.proofs.lent.Step.Laws as S′
-use Rattle.gather.proofs.Passed.{Passed, type-at, adding, adding-clauses, Adding, by-value, by-value-clauses, ByValue, held, record-ref, table-ref, table-ptr, anew}
+use Rattle.gather.proofs.Third.{Third, type-at, adding, adding-clauses, Adding, by-value, by-value-clauses, ByValue, held, record-ref, table-ref, table-ptr, anew}
 
-module _ (p : Passed) where
+module _ (p : Third) where
   -- the call's MIR: f is the call by value
   abbrev code : Name → Fn
   code f = record {
@@ -32,7 +32,7 @@ module _ (p : Passed) where
   abbrev stayed : Stays (adding p .signature .params) (adding p .kept)
   stayed = (stay-ref (0 ∷ []) tt (plain (λ _. T.the-row)), (gave-slice (1 ∷ []) tt (plain (λ _. u16)), (stay-dropped (plain (λ κs. type-at p 2 (κs .1 .1))) yes, tt)))
 
-module _ (p : Passed) {M : Type 1} (𝓤 : URA M) (H : Heap 𝓤) (A : Atoms 𝓤) (W : Given 𝓤 H A) (κ : Lft) (κs : Lfts (suc (p .more))) (q : Share) (qs : Shares (suc (p .more))) (b o : ℕ) (γ : GName) (h : Gatherer) (x : RefT (List ℕ)) (y : p .Value) (room : Room u16 (length (now x))) (fits : Is (type-at p 2 (κs .1)) y (p .val y ∷ [])) where
+module _ (p : Third) {M : Type 1} (𝓤 : URA M) (H : Heap 𝓤) (A : Atoms 𝓤) (W : Given 𝓤 H A) (κ : Lft) (κs : Lfts (suc (p .more))) (q : Share) (qs : Shares (suc (p .more))) (b o : ℕ) (γ : GName) (h : Gatherer) (x : RefT (List ℕ)) (y : p .Value) (room : Room u16 (length (now x))) (fits : Is (type-at p 2 (κs .1)) y (p .val y ∷ [])) where
   -- the table's machine value: its pointer and count
   abbrev s : Val
   s = sliceVal (x .ptr) (length (now x))
@@ -98,7 +98,7 @@ module _ (p : Passed) {M : Type 1} (𝓤 : URA M) (H : Heap 𝓤) (A : Atoms �
         move ! (22 ∷ 23 ∷ []) $ free1 ! $ move ! (20 ∷ 21 ∷ []) $ free1 ! $ move ! (18 ∷ 19 ∷ []) $ free1 ! $ move ! (16 ∷ 17 ∷ []) $ free1 ! $ move ! (14 ∷ 15 ∷ []) $ free1 ! $ move ! (12 ∷ 13 ∷ []) $ free1 ! $ move ! (10 ∷ 11 ∷ []) $ free1 ! $ move ! (8 ∷ 9 ∷ []) $ free1 ! $ free0 ! $
         keep ! (0 ∷ 1 ∷ 2 ∷ 4 ∷ 5 ∷ []) $ by ! (exits r (zs .1 .0) (step-answer r _ is) e l)))))))))))))))
 
-module _ (p : Passed) {M : Type 1} (𝓤 : URA M) (H : Heap 𝓤) where
+module _ (p : Third) {M : Type 1} (𝓤 : URA M) (H : Heap 𝓤) where
   over : (A : Atoms 𝓤) → Given 𝓤 H A → (f : Name) → Over 𝓤 H f (code p f) (ByValue p 𝓤 H A) (Adding p 𝓤 H A)
   over A W f 𝓣 known =
       let n : ℕ = suc (suc (p .more)) in

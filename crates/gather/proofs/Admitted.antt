@@ -57,11 +57,11 @@ unfolding answered
 answered-no zero g n = absurd (n refl)
 answered-no (suc k) g n = refl
 
-pub kept-new : (k : ℕ) (old new : List ℕ) → k ≡ 0 → kept k old new ≡ new
+pub kept-new : {A : Type 0} (k : ℕ) (old new : A) → k ≡ 0 → kept k old new ≡ new
 unfolding kept
 kept-new k old new e = rw e
 
-pub kept-old : (k : ℕ) (old new : List ℕ) → (k ≡ 0 → ⊥) → kept k old new ≡ old
+pub kept-old : {A : Type 0} (k : ℕ) (old new : A) → (k ≡ 0 → ⊥) → kept k old new ≡ old
 unfolding kept
 kept-old zero old new n = absurd (n refl)
 kept-old (suc k) old new n = refl

@@ -5,7 +5,7 @@ use mathlib.Core.List.{[], _∷_}
 use Rattle.model.specs.Tests.{pick, both, all}
 use Rattle.model.specs.Answers.{accepted, refused}
 use Rattle.gather.specs.declared.Gatherer.{Gatherer}
-use Rattle.gather.specs.Records.{left, rowRecord, pageRecord}
+use Rattle.gather.specs.Records.{rowRecord, pageRecord}
 use Rattle.gather.specs.Gather.{answered, kept, impossible, above, early, late, orElse, joins, added, addedTo, rowNumber, rowAnswer, rowTable, upAt, rises, oneSeed, addedAll, addedAllTo, seeded, paged, pagedTo, someNumber, pageNumber, pageAnswer, pageTable}
 
 nothing : Gatherer
@@ -60,5 +60,5 @@ empty = (refl, refl)
 
 -- the record lent to be changed: the new one for a page that is taken, the old one for a page or a row that is refused
 records : (pageRecord nothing 3 (0 ∷ 65534 ∷ []) ≡ record { entries = 1; rows = 2; first = 0; last = 65534 }) × (pageRecord nothing 1 (0 ∷ 65535 ∷ []) ≡ nothing) × (rowRecord after-page 1 4096 ≡ after-page)
-unfolding nothing after-page left impossible above early late orElse joins added addedAll upAt rises oneSeed seeded paged someNumber pageNumber rowNumber rowRecord pageRecord pick both all
+unfolding nothing after-page impossible above early late orElse joins added addedAll upAt rises oneSeed seeded paged someNumber pageNumber rowNumber rowRecord pageRecord kept pick both all
 records = (refl, refl, refl)

@@ -12,9 +12,9 @@ use Rattle.gather.proofs.lent.Added as E
 use Rattle.gather.proofs.lent.Added.Laws as E′
 use Rattle.gather.proofs.lent.Step as S
 use Rattle.gather.proofs.lent.Step.Laws as S′
-use Rattle.gather.proofs.Passed.{Passed, type-at, adding, adding-clauses, Adding, by-value, by-value-clauses, ByValue, held, record-ref, table-ref, table-ptr, anew}
+use Rattle.gather.proofs.Third.{Third, type-at, adding, adding-clauses, Adding, by-value, by-value-clauses, ByValue, held, record-ref, table-ref, table-ptr, anew}
 
-module _ (p : Passed) where
+module _ (p : Third) where
   -- the call's MIR: f is the call that adds to a lent record
   abbrev code : Name → Fn
   code f = record {
@@ -32,7 +32,7 @@ module _ (p : Passed) where
   abbrev stayed : Stays (by-value p .signature .params) (by-value p .kept)
   stayed = (stay-dropped (plain (λ _. T.the-row)) yes, (gave-slice (0 ∷ []) tt (plain (λ _. u16)), (stay-dropped (plain (λ κs. type-at p 1 (κs .1))) yes, tt)))
 
-module _ (p : Passed) {M : Type 1} (𝓤 : URA M) (H : Heap 𝓤) (A : Atoms 𝓤) (W : Given 𝓤 H A) (κs : Lfts (suc (p .more))) (qs : Shares (suc (p .more))) (h : Gatherer) (x : RefT (List ℕ)) (y : p .Value) (g : Is T.the-row h (mach h ∷ [])) (room : Room u16 (length (now x))) (fits : Is (type-at p 1 (κs .1)) y (p .val y ∷ [])) where
+module _ (p : Third) {M : Type 1} (𝓤 : URA M) (H : Heap 𝓤) (A : Atoms 𝓤) (W : Given 𝓤 H A) (κs : Lfts (suc (p .more))) (qs : Shares (suc (p .more))) (h : Gatherer) (x : RefT (List ℕ)) (y : p .Value) (g : Is T.the-row h (mach h ∷ [])) (room : Room u16 (length (now x))) (fits : Is (type-at p 1 (κs .1)) y (p .val y ∷ [])) where
   -- the table's machine value: its pointer and count
   abbrev s : Val
   s = sliceVal (x .ptr) (length (now x))
@@ -104,7 +104,7 @@ module _ (p : Passed) {M : Type 1} (𝓤 : URA M) (H : Heap 𝓤) (A : Atoms �
         move ! (23 ∷ 24 ∷ []) $ free1 ! $ move ! (21 ∷ 22 ∷ []) $ free1 ! $ move ! (19 ∷ 20 ∷ []) $ free1 ! $ move ! (17 ∷ 18 ∷ []) $ free1 ! $ move ! (0 ∷ 16 ∷ []) $ free1 ! $ move ! (13 ∷ 14 ∷ []) $ free1 ! $ move ! (11 ∷ 12 ∷ []) $ free1 ! $ move ! (9 ∷ 10 ∷ []) $ free1 ! $ move ! (7 ∷ 8 ∷ []) $ free1 ! $ move ! (5 ∷ 6 ∷ []) $ free1 ! $ free0 ! $
         keep ! (1 ∷ 3 ∷ []) $ by ! (exits r (zs .0) (zs .1 .0) (answer-is r _ is) k e l)))))))))))))))))))
 
-module _ (p : Passed) {M : Type 1} (𝓤 : URA M) (H : Heap 𝓤) where
+module _ (p : Third) {M : Type 1} (𝓤 : URA M) (H : Heap 𝓤) where
   over : (A : Atoms 𝓤) → Given 𝓤 H A → (f : Name) → Over 𝓤 H f (code p f) (Adding p 𝓤 H A) (ByValue p 𝓤 H A)
   over A W f 𝓣 known =
       let n : ℕ = suc (p .more) in

@@ -12,6 +12,6 @@ pub mod Elsewhere
 pub mod Taken
 pub mod Promised
 pub mod Walk
-pub mod Passed
+pub mod Third
 pub mod Adds
 pub mod Lends

@@ -14,8 +14,8 @@ use Rattle.gather.specs.declared.Gathered.{Gathered}
 use Rattle.gather.specs.declared.Gathered.the-variants.{Record, Refused}
 use Rattle.gather.specs.declared.lent.Added.the-variants.{Done}
 use Rattle.gather.specs.declared.lent.Added.the-variants as variants
-use Rattle.gather.specs.Gather.{answerOf, answered, added, addedTo, rowNumber, rowAnswer, rowTable, paged, pagedTo, pageAnswer, pageTable, GoesIn}
-use Rattle.gather.specs.Records.{addedAnswer, left, rowRecord, pageRecord, stepOf}
+use Rattle.gather.specs.Gather.{answerOf, answered, kept, added, addedTo, rowNumber, rowAnswer, rowTable, paged, pagedTo, pageAnswer, pageTable, GoesIn}
+use Rattle.gather.specs.Records.{addedAnswer, rowRecord, pageRecord, stepOf}
 use Rattle.gather.proofs.Admitted.{answered-no, kept-new, kept-old}
 use Rattle.gather.proofs.Pages.{some-number, some-answer, some-table}
 use Rattle.gather.proofs.Answers.{ofValues}
@@ -27,8 +27,8 @@ taken-answer old (Record g) = refl
 taken-answer old (Refused k) = refl
 
 -- and the record is the new one, or the old one where a number refuses
-pub taken-record : (old new : Gatherer) (n : ℕ) (c : Gathered) → answerOf c ≡ answered n new → stepOf old c .after ≡ left n old new
-unfolding answerOf answered left stepOf
+pub taken-record : (old new : Gatherer) (n : ℕ) (c : Gathered) → answerOf c ≡ answered n new → stepOf old c .after ≡ kept n old new
+unfolding answerOf answered kept stepOf
 taken-record old new zero (Record g) e = ap (λ (x : Answer). ofValues (x .values)) e
 taken-record old new (suc n) (Record g) e = absurd (omega (arith, same-number e))
 taken-record old new zero (Refused k) e = absurd (omega (arith, same-size e))
@@ -40,19 +40,10 @@ done-answer : (n : ℕ) (new : Gatherer) → n ≡ 0 → addedAnswer Done new �
 unfolding addedAnswer answered
 done-answer n new e = rw e
 
-done-record : (n : ℕ) (old new : Gatherer) → n ≡ 0 → new ≡ left n old new
-unfolding left
-done-record n old new e = rw e
-
-left-old : (n : ℕ) (old new : Gatherer) → (n ≡ 0 → ⊥) → old ≡ left n old new
-unfolding left
-left-old zero old new z = absurd (z refl)
-left-old (suc n) old new z = refl
-
 pub row-done : (g : Gatherer) (t : List ℕ) (row : ℕ) → rowNumber g (length t) row ≡ 0 → (after : Gatherer) (u : List ℕ) → (after ≡ added g row) × (u ≡ addedTo t g row)
     → (addedAnswer Done after ≡ rowAnswer g (length t) row) × ((after ≡ rowRecord g (length t) row) × (u ≡ rowTable g t row))
 unfolding rowAnswer rowRecord rowTable
-row-done g t row z after u w = rw (w .0, w .1) (done-answer _ _ z, (done-record _ _ _ z, sym (kept-new _ _ _ z)))
+row-done g t row z after u w = rw (w .0, w .1) (done-answer _ _ z, (sym (kept-new _ _ _ z), sym (kept-new _ _ _ z)))
 
 pub page-done : (g : Gatherer) (t rows : List ℕ) → GoesIn g (length t) rows → (after : Gatherer) (u : List ℕ) → (after ≡ paged g rows) × (u ≡ pagedTo t g rows)
     → (addedAnswer Done after ≡ pageAnswer g (length t) rows) × ((after ≡ pageRecord g (length t) rows) × (u ≡ pageTable g t rows))
@@ -60,11 +51,11 @@ unfolding pageRecord
 page-done g t rows o after u w =
     let n : length rows ≡ 0 → ⊥ = λ z. omega (arith, o .any) in
     let z = o .number in
-    rw (w .0, w .1, some-answer g rows n (length t), some-table g rows n t, some-number g rows n (length t), pick-false g (paged g rows) (ne-eqb (length rows) 0 n)) (done-answer _ _ z, (done-record _ _ _ z, sym (kept-new _ _ _ z)))
+    rw (w .0, w .1, some-answer g rows n (length t), some-table g rows n t, some-number g rows n (length t), pick-false g (paged g rows) (ne-eqb (length rows) 0 n)) (done-answer _ _ z, (sym (kept-new _ _ _ z), sym (kept-new _ _ _ z)))
 
 -- ---- where one does
 
 pub row-refused : (g : Gatherer) (t : List ℕ) (row k : ℕ) → rowNumber g (length t) row ≡ k → (k ≡ 0 → ⊥)
     → (addedAnswer (variants.Refused k) g ≡ rowAnswer g (length t) row) × ((g ≡ rowRecord g (length t) row) × (t ≡ rowTable g t row))
 unfolding rowAnswer rowRecord rowTable addedAnswer
-row-refused g t row k e n = rw e (sym (answered-no k _ n), (left-old k g _ n, sym (kept-old k _ _ n)))
+row-refused g t row k e n = rw e (sym (answered-no k _ n), (sym (kept-old k g _ n), sym (kept-old k _ _ n)))

@@ -26,8 +26,8 @@ unfoldable pub answered : ℕ → Gatherer → Answer
 answered zero g = accepted (valuesOf g)
 answered (suc k) g = refused (suc k)
 
--- what is left of a table: written where no test refused
-unfoldable pub kept : ℕ → List ℕ → List ℕ → List ℕ
+-- what is left of a table or of a record, by the number of a refusal, 0 for none: changed where no test refused
+unfoldable pub kept : {A : Type 0} → ℕ → A → A → A
 kept zero old new = new
 kept (suc k) old new = old
 

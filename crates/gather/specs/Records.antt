@@ -1,6 +1,6 @@
 -- The gatherer as one record that is lent to be changed: what a call answers, and the record that it leaves.
 -- Assumes nothing.
-use Prim.Native.Nat.{ℕ, zero, suc}
+use Prim.Native.Nat.{ℕ}
 use mathlib.Core.List.{List}
 use lib.Dec.{eqb}
 use lib.ListN.{length}
@@ -12,24 +12,20 @@ use Rattle.gather.specs.declared.Gathered.the-variants as core
 use Rattle.gather.specs.declared.lent.Added.{Added}
 use Rattle.gather.specs.declared.lent.Added.the-variants.{Done, Refused}
 use Rattle.gather.specs.declared.lent.Step.{Step}
-use Rattle.gather.specs.Gather.{valuesOf, rowNumber, added, pageNumber, paged}
+use Rattle.gather.specs.Gather.{valuesOf, kept, rowNumber, added, pageNumber, paged}
 
 -- document 01's number and values of each case: where a call was done, the values are those of the record that it left
 unfoldable pub addedAnswer : Added → Gatherer → Answer
 addedAnswer Done after = accepted (valuesOf after)
 addedAnswer (Refused k) after = refused k
 
--- the record that is left, by the number of a refusal, 0 for none: a refusal changes no record
-unfoldable pub left : ℕ → Gatherer → Gatherer → Gatherer
-left zero old new = new
-left (suc k) old new = old
-
+-- the record that is left: a refusal changes none
 unfoldable pub rowRecord : Gatherer → ℕ → ℕ → Gatherer
-rowRecord g room row = left (rowNumber g room row) g (added g row)
+rowRecord g room row = kept (rowNumber g room row) g (added g row)
 
 -- an empty page changes nothing
 unfoldable pub pageRecord : Gatherer → ℕ → List ℕ → Gatherer
-pageRecord g room rows = left (pageNumber g room rows) g (pick (eqb (length rows) 0) g (paged g rows))
+pageRecord g room rows = kept (pageNumber g room rows) g (pick (eqb (length rows) 0) g (paged g rows))
 
 -- the by-value answer taken apart, over the old record
 unfoldable pub stepOf : Gatherer → Gathered → Step

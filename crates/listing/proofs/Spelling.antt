@@ -1,6 +1,6 @@
 -- Laws of the listing's text: what stores one after the other leave, and the digits of a number.
 -- Assumes nothing.
-use mathlib.Core.Path.{_≡_, refl, ap, _∙_}
+use mathlib.Core.Path.{_≡_, refl, sym, ap, _∙_}
 use mathlib.Core.Logic.{⊎-elim}
 use mathlib.Core.List.{List, [], _∷_, _++_}
 use Prim.Native.Nat.{ℕ, zero, suc, _+_, _-_, _/_, _%_, _^_, _<_, _≤_}
@@ -9,11 +9,11 @@ use native.Mathlib.Numerals.{add-one}
 use native.Mathlib.Omega.{arith}
 use lib.Dec.{eqb}
 use lib.ListN.{length, getD, set, take, length-append, length-set}
-use lib.Seq.{sets, set-comm, take-suc, take-all, length-take-le}
+use lib.Seq.{sets, set-comm, take-all}
 use borrow.Author.Tests.{eq-eqb, ne-eqb}
 use Rattle.model.specs.Tests.{pick}
 use Rattle.model.proofs.Tests.{either}
-use Rattle.model.proofs.Sets.{sets-append}
+use Rattle.model.proofs.Sets.{sets-append, sets-next}
 use Rattle.listing.specs.Text.{Put, digits, decimal, places}
 
 -- ---- stores
@@ -160,8 +160,7 @@ pub record Copying (first : List ℕ) (at : ℕ) (word out : List ℕ) (i : ℕ)
 pub copying-next : {first word out : List ℕ} {at i : ℕ} → Copying first at word out i → i < length word → Copying first at word (set out (at + i) (getD word i 0)) (i + 1)
 copying-next {first = first} {word = word} {out = out} {at = at} {i = i} p h =
     record {
-      written =
-          rw (p .written, add-one, take-suc word i 0 h, sets-append (take i word) (getD word i 0 ∷ []) first at, length-take-le i word (omega (arith, h)));
+      written = rw (p .written) (sym (sets-next word first at i h));
       inside = omega (arith, h);
       size = rw length-set (p .size);
     }

@@ -4,9 +4,10 @@ use mathlib.Core.Path.{_≡_, refl, _∙_}
 use mathlib.Core.List.{List, [], _∷_, _++_}
 use Prim.Native.Nat.{ℕ, zero, suc, _+_, _<_, _≤_}
 use native.Mathlib.Nat.{zero-add, add-zero, suc-add, add-suc, not-suc-le-zero, le-of-suc-le-suc}
+use native.Mathlib.Numerals.{add-one}
 use native.Mathlib.Omega.{arith}
-use lib.ListN.{length, getD, set, length-set}
-use lib.Seq.{sets, sets-eq, getD-set-same, getD-set-other}
+use lib.ListN.{length, getD, set, take, length-set}
+use lib.Seq.{sets, sets-eq, take-suc, length-take-le, getD-set-same, getD-set-other}
 use Rattle.model.specs.Answers.{over}
 
 pub sets-below : (vs l : List ℕ) (at j : ℕ) → j < at → getD (sets l at vs) j 0 ≡ getD l j 0
@@ -27,6 +28,10 @@ sets-in (a ∷ vs) l at (suc i) h k =
 pub sets-append : (us vs l : List ℕ) (at : ℕ) → sets l at (us ++ vs) ≡ sets (sets l at us) (at + length us) vs
 sets-append [] vs l at = rw add-zero
 sets-append (a ∷ us) vs l at = rw (add-suc, ← suc-add) (sets-append us vs (set l at a) (suc at))
+
+-- one number more of those that are written
+pub sets-next : (vs l : List ℕ) (at i : ℕ) → i < length vs → sets l at (take (i + 1) vs) ≡ set (sets l at (take i vs)) (at + i) (getD vs i 0)
+sets-next vs l at i h = rw (add-one i, take-suc vs i 0 h, sets-append (take i vs) (getD vs i 0 ∷ []) l at, length-take-le i vs (omega arith))
 
 -- in front
 pub sets-front : (front xs : List ℕ) → length front ≤ length xs → sets xs 0 front ≡ over front xs

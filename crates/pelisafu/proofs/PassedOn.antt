@@ -14,12 +14,12 @@ use Rattle.gather.proofs.Gatherer as T
 use Rattle.gather.proofs.Gatherer.Laws as T′
 use Rattle.gather.proofs.lent.Added as E
 use Rattle.gather.proofs.lent.Added.Laws as E′
-use Rattle.gather.proofs.Passed.{Passed, type-at, lent, lent-clauses, Lent, adding, adding-clauses, Adding, held, record-ref, table-ref, table-ptr, anew}
+use Rattle.gather.proofs.Third.{Third, type-at, lent, lent-clauses, Lent, adding, adding-clauses, Adding, held, record-ref, table-ref, table-ptr, anew}
 use Rattle.pelisafu.specs.Shown.{numberOf}
 use Rattle.pelisafu.proofs.Numbers.{Numbered, numbered, NumberOf}
 use Rattle.pelisafu.proofs.gathering.number_of as number-of
 
-module _ (p : Passed) where
+module _ (p : Third) where
   -- the call's MIR: f is the call of `gather`, and n is `number_of`
   abbrev code : Name → Name → Fn
   code f n = record {
@@ -44,7 +44,7 @@ module _ (p : Passed) where
     abbrev Numbering : Heap 𝓤 → Atoms 𝓤 → Contract 𝓤
     Numbering = Lent p u8 𝓤 (λ z g a. z ≡ a .number)
 
-module _ (p : Passed) {M : Type 1} (𝓤 : URA M) (H : Heap 𝓤) (A : Atoms 𝓤) (W : Given 𝓤 H A) (mem : Memory → SProp 𝓤) (run : Routine → Fun 𝓤) (κs : Lfts (suc (suc (p .more)))) (qs : Shares (suc (suc (p .more)))) (g : RefT Gatherer) (x : RefT (List ℕ)) (y : p .Value) (room : Room u16 (length (now x))) (fits : Is (type-at p 2 (κs .1 .1)) y (p .val y ∷ [])) where
+module _ (p : Third) {M : Type 1} (𝓤 : URA M) (H : Heap 𝓤) (A : Atoms 𝓤) (W : Given 𝓤 H A) (mem : Memory → SProp 𝓤) (run : Routine → Fun 𝓤) (κs : Lfts (suc (suc (p .more)))) (qs : Shares (suc (suc (p .more)))) (g : RefT Gatherer) (x : RefT (List ℕ)) (y : p .Value) (room : Room u16 (length (now x))) (fits : Is (type-at p 2 (κs .1 .1)) y (p .val y ∷ [])) where
   abbrev s : Val
   s = sliceVal (x .ptr) (length (now x))
 
@@ -96,7 +96,7 @@ module _ (p : Passed) {M : Type 1} (𝓤 : URA M) (H : Heap 𝓤) (A : Atoms �
         move ! (21 ∷ 22 ∷ []) $ free1 ! $ move ! (19 ∷ 20 ∷ []) $ free1 ! $ move ! (17 ∷ 18 ∷ []) $ free1 ! $ move ! (15 ∷ 16 ∷ []) $ free1 ! $ move ! (13 ∷ 14 ∷ []) $ free1 ! $ move ! (11 ∷ 12 ∷ []) $ free1 ! $ move ! (9 ∷ 10 ∷ []) $ free1 ! $ move ! (7 ∷ 8 ∷ []) $ free1 ! $ free0 ! $
         keep ! (6 ∷ 5 ∷ 3 ∷ 0 ∷ []) $ by ! (exits z u (zs .0) (zs .1 .0) (numbered want r z (zs .0) (zs .1 .0) i e) l))))))))))))))))
 
-module _ (p : Passed) {M : Type 1} (𝓤 : URA M) (H : Heap 𝓤) where
+module _ (p : Third) {M : Type 1} (𝓤 : URA M) (H : Heap 𝓤) where
   over : (A : Atoms 𝓤) → Given 𝓤 H A → (mem : Memory → SProp 𝓤) (run : Routine → Fun 𝓤) (f n : Name) (𝓣 : Tables 𝓤 H) → Triple 𝓤 (𝓣 .C f) (Adding p 𝓤 H A) → Triple 𝓤 (𝓣 .C n) (NumberOf 𝓤 H A mem run)
       → Triple 𝓤 (WpFn 𝓤 H (𝓣 .C) (𝓣 .Λ) (code p f n)) (Numbering p 𝓤 H A)
   over A W mem run f n 𝓣 known-add known-number =

@@ -1,7 +1,7 @@
 -- `gather::add_page` meets its contract: a walk of its MIR by hand, in `Adds`.
 -- All that the proof knows of `page_step` is that it meets its contract.
 -- Assumes nothing.
-use Rattle.gather.proofs.Passed.{page}
+use Rattle.gather.proofs.Third.{page}
 use Rattle.gather.proofs.Adds.{adds}
 use Rattle.gather.proofs.lent.page_step.Symbol as step
 use Rattle.gather.proofs.lent.page_step.Met as thm

@@ -1,7 +1,7 @@
 -- `gather::add_row` meets its contract: a walk of its MIR by hand, in `Adds`.
 -- All that the proof knows of `row_step` is that it meets its contract.
 -- Assumes nothing.
-use Rattle.gather.proofs.Passed.{row}
+use Rattle.gather.proofs.Third.{row}
 use Rattle.gather.proofs.Adds.{adds}
 use Rattle.gather.proofs.lent.row_step.Symbol as step
 use Rattle.gather.proofs.lent.row_step.Met as thm

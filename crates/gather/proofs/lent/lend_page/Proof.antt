@@ -1,7 +1,7 @@
 -- `gather::lend_page` meets its contract: a walk of its MIR by hand, in `Lends`.
 -- All that the proof knows of `add_page` is that it meets its contract.
 -- Assumes nothing.
-use Rattle.gather.proofs.Passed.{page}
+use Rattle.gather.proofs.Third.{page}
 use Rattle.gather.proofs.Lends.{lends}
 use Rattle.gather.proofs.lent.add_page.Symbol as add
 use Rattle.gather.proofs.lent.add_page.Met as thm

@@ -1,7 +1,7 @@
 -- `gather::lend_row` meets its contract: a walk of its MIR by hand, in `Lends`.
 -- All that the proof knows of `add_row` is that it meets its contract.
 -- Assumes nothing.
-use Rattle.gather.proofs.Passed.{row}
+use Rattle.gather.proofs.Third.{row}
 use Rattle.gather.proofs.Lends.{lends}
 use Rattle.gather.proofs.lent.add_row.Symbol as add
 use Rattle.gather.proofs.lent.add_row.Met as thm

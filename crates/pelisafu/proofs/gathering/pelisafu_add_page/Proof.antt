@@ -1,6 +1,6 @@
 -- `pelisafu::gathering::pelisafu_add_page` meets its contract: a walk of its MIR by hand, in `PassedOn`.
 -- Assumes nothing.
-use Rattle.gather.proofs.Passed.{page}
+use Rattle.gather.proofs.Third.{page}
 use Rattle.gather.proofs.add_page.Symbol as add
 use Rattle.gather.proofs.add_page.Met as add-thm
 use Rattle.pelisafu.proofs.PassedOn.{passes-on}

@@ -1,6 +1,6 @@
 -- `pelisafu::gathering::pelisafu_add_row` meets its contract: a walk of its MIR by hand, in `PassedOn`.
 -- Assumes nothing.
-use Rattle.gather.proofs.Passed.{row}
+use Rattle.gather.proofs.Third.{row}
 use Rattle.gather.proofs.add_row.Symbol as add
 use Rattle.gather.proofs.add_row.Met as add-thm
 use Rattle.pelisafu.proofs.PassedOn.{passes-on}

@@ -35,7 +35,7 @@ use Rattle.gather.proofs.Gatherer as T
 use Rattle.gather.proofs.lent.Added as E
 use Rattle.gather.proofs.lent.Step as S
 
-pub record Passed : Type 2 where
+pub record Third : Type 2 where
   -- how many lifetimes it brings
   pub more : ℕ
   pub Value : Type 0
@@ -51,7 +51,7 @@ pub record Passed : Type 2 where
   -- what a call promises that is passed it
   pub want : Gatherer → List ℕ → Value → Wanted
 
-abbrev pub row : Passed
+abbrev pub row : Third
 row = record {
   more = 0;
   Value = ℕ;
@@ -65,7 +65,7 @@ row = record {
   want = of-row;
 }
 
-abbrev pub page : Passed
+abbrev pub page : Third
 page = record {
   more = 1;
   Value = RefT (List ℕ);
@@ -79,7 +79,7 @@ page = record {
   want = λ g t y. of-page g t (now y);
 }
 
-module _ (p : Passed) where
+module _ (p : Third) where
   -- its type, where its first lifetime has the number k
   abbrev pub type-at : ℕ → Lfts (p .more) → RattleType
   type-at k κs = record {
