@@ -1,5 +1,5 @@
 // Bodies from rows, written into a lent slice. What writes a layout, or a part of one, answers the place behind it.
-// Here is what rows of either width share; the loops over u64 rows and over u16 ordinals are modules.
+// Here is what rows of either width share; the loops over u64 rows and over u16 ordinals are crates of their own, `emit_rows` and `emit_ordinals`.
 ghost use mathlib.Core.Path.{_≡_};
 ghost use mathlib.Core.List.{[], _∷_};
 ghost use Prim.Native.Nat.{_+_, _*_, _/_, _%_, _≤_, min};
@@ -13,20 +13,8 @@ ghost use Rattle.bitmap.specs.Body.{wordsOf};
 ghost use Rattle.emit.specs.Written.{Written};
 ghost use Rattle.emit.specs.Words.{withDigit, withRun, countedAt};
 
-mod ordinals;
-mod rows;
-
-pub use ordinals::bitmap_ordinals;
-pub use ordinals::list_ordinals;
-pub use ordinals::missing_ordinals;
-pub use ordinals::runs_ordinals;
-pub use rows::bitmap_rows;
-pub use rows::list_rows;
-pub use rows::missing_rows;
-pub use rows::runs_rows;
-
 // A field of 4 bytes where `wide`, else of 2: the lowest digits of v that it has room for.
-fn put_field(out: &mut [u8], at: usize, v: u32, wide: bool)
+pub fn put_field(out: &mut [u8], at: usize, v: u32, wide: bool)
     requires { ⌜ at + widthOf wide ≤ length (now out) ⌝ }
     ensures { λ _. ⌜ now (out .exit) ≡ put (widthOf wide) (now (out .entry)) at v ⌝ }
 {
@@ -90,14 +78,14 @@ pub struct Passed {
 }
 
 // The digits of a word with one more, by the position that it stands for.
-fn with_digit(bits: u64, position: u32) -> u64
+pub fn with_digit(bits: u64, position: u32) -> u64
     ensures { λ r. ⌜ r ≡ withDigit bits position ⌝ }
 {
     bits | (1 << (position % 64))
 }
 
 // A word with n more rows, which stand one behind the other from a position on: one mask, however many they are.
-fn with_run(word: Word, position: u32, n: usize) -> Word
+pub fn with_run(word: Word, position: u32, n: usize) -> Word
     requires { ⌜ (1 ≤ n) × (position % 64 + n ≤ 64) × (word .next ≤ 4294967295) ⌝ }
     ensures { λ r. ⌜ r ≡ withRun word position n ⌝ }
 {
@@ -107,26 +95,26 @@ fn with_run(word: Word, position: u32, n: usize) -> Word
     }
 }
 
-fn least(a: usize, b: usize) -> usize
+pub fn least(a: usize, b: usize) -> usize
     ensures { λ r. ⌜ r ≡ min a b ⌝ }
 {
     if a < b { a } else { b }
 }
 
 // Whether a position stands in the word k.
-fn in_word(position: u32, k: usize) -> bool
+pub fn in_word(position: u32, k: usize) -> bool
     ensures { λ r. ⌜ r ≡ eqb (position / 64) k ⌝ }
 {
     (position / 64) as usize == k
 }
 
-fn words_of(span: u32) -> usize
+pub fn words_of(span: u32) -> usize
     ensures { λ r. ⌜ r ≡ wordsOf span ⌝ }
 {
     (span as usize + 63) / 64
 }
 
-fn groups_of(words: usize) -> usize
+pub fn groups_of(words: usize) -> usize
     requires { ⌜ words ≤ 67108864 ⌝ }
     ensures { λ r. ⌜ r ≡ (words + 3) / 4 ⌝ }
 {
@@ -134,7 +122,7 @@ fn groups_of(words: usize) -> usize
 }
 
 // Each fourth word begins a group: the rows before it go in front of the words.
-fn put_before(out: &mut [u8], at: usize, k: usize, rows: usize)
+pub fn put_before(out: &mut [u8], at: usize, k: usize, rows: usize)
     requires { ⌜ at + 2 * (k / 4) + 2 ≤ length (now out) ⌝ }
     ensures { λ _. ⌜ now (out .exit) ≡ countedAt (now (out .entry)) at k rows ⌝ }
 {

@@ -81,22 +81,22 @@ pub fn local_rows(out: &mut [u8], at: usize, rows: &[u64], base: u64, tag: u8, s
     ensures { λ r. ⌜ Written (localLayout tag span (positionsOf base (now (rows .entry)))) at (now (out .entry)) (now (out .exit)) r ⌝ }
 {
     if tag == 2 {
-        return emit::list_rows(out, at, rows, base, true);
+        return emit_rows::list_rows(out, at, rows, base, true);
     }
     if tag == 3 {
-        return emit::list_rows(out, at, rows, base, false);
+        return emit_rows::list_rows(out, at, rows, base, false);
     }
     if tag == 4 {
-        return emit::runs_rows(out, at, rows, base, false);
+        return emit_rows::runs_rows(out, at, rows, base, false);
     }
     if tag == 5 {
-        return emit::runs_rows(out, at, rows, base, true);
+        return emit_rows::runs_rows(out, at, rows, base, true);
     }
     if tag == 6 {
-        return emit::bitmap_rows(out, at, rows, base, span);
+        return emit_rows::bitmap_rows(out, at, rows, base, span);
     }
     if tag == 7 {
-        return emit::missing_rows(out, at, rows, base, span);
+        return emit_rows::missing_rows(out, at, rows, base, span);
     }
     at
 }
@@ -149,22 +149,22 @@ pub fn local_ordinals(
     ensures { λ r. ⌜ Written (localLayout tag span (positionsOf base (now (ordinals .entry)))) at (now (out .entry)) (now (out .exit)) r ⌝ }
 {
     if tag == 2 {
-        return emit::list_ordinals(out, at, ordinals, base, true);
+        return emit_ordinals::list_ordinals(out, at, ordinals, base, true);
     }
     if tag == 3 {
-        return emit::list_ordinals(out, at, ordinals, base, false);
+        return emit_ordinals::list_ordinals(out, at, ordinals, base, false);
     }
     if tag == 4 {
-        return emit::runs_ordinals(out, at, ordinals, base, false);
+        return emit_ordinals::runs_ordinals(out, at, ordinals, base, false);
     }
     if tag == 5 {
-        return emit::runs_ordinals(out, at, ordinals, base, true);
+        return emit_ordinals::runs_ordinals(out, at, ordinals, base, true);
     }
     if tag == 6 {
-        return emit::bitmap_ordinals(out, at, ordinals, base, span);
+        return emit_ordinals::bitmap_ordinals(out, at, ordinals, base, span);
     }
     if tag == 7 {
-        return emit::missing_ordinals(out, at, ordinals, base, span);
+        return emit_ordinals::missing_ordinals(out, at, ordinals, base, span);
     }
     at
 }
