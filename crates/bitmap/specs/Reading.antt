@@ -16,11 +16,11 @@ use Rattle.bitmap.specs.declared.Spot.{Spot}
 
 -- ---- place: the rows that the position's group states, and those of the group below it
 
+abbrev pub bitmapBelow : List ℕ → ℕ → ℕ → ℕ
+bitmapBelow xs s p = stated xs (p / 256) + (before xs s p - before xs s (256 * (p / 256)))
+
 unfoldable pub bitmapPlace : List ℕ → ℕ → ℕ → ℕ → Place
-bitmapPlace xs s n p =
-    pick (ltb p s)
-    (record { below = stated xs (p / 256) + (before xs s p - before xs s (256 * (p / 256))); present = has (bitmapNames xs s) p })
-    (record { below = n; present = false })
+bitmapPlace xs s n p = pick (ltb p s) (record { below = bitmapBelow xs s p; present = has (bitmapNames xs s) p }) (record { below = n; present = false })
 
 -- ---- select and walk
 

@@ -4,10 +4,10 @@ ghost use Prim.Native.Nat.{_+_, _-_, _*_, _^_, _<_, _≤_, min};
 ghost use lib.Dec.{ltb, eqb};
 ghost use lib.ListN.{length, take};
 ghost use Rattle.model.specs.Tests.{both, all};
-ghost use Rattle.model.specs.Lists.{moved};
-ghost use Rattle.model.specs.Answers.{Walked};
+ghost use Rattle.model.specs.Lists.{has, moved};
+ghost use Rattle.model.specs.Answers.{over, rankIn, ranksIn, Walked};
 ghost use Rattle.bitmap.specs.Body.{wordsOf, groupsOf, bitmapLength, number, wordOf, exact, bitmapNames, bitmapAccepts};
-ghost use Rattle.bitmap.specs.Reading.{bitmapPlace, bitmapSelect, bitmapWalk, groupFor, Between, Spotted, restOf, Settled};
+ghost use Rattle.bitmap.specs.Reading.{bitmapBelow, bitmapPlace, bitmapSelect, bitmapWalk, groupFor, Between, Spotted, restOf, Settled};
 use model::Place;
 
 // ---- sizes
@@ -103,7 +103,27 @@ pub fn check(body: &[u8], span: u32, count: u16) -> bool
     groups_right(body, span, count)
 }
 
-// ---- place
+// ---- place and rank
+
+// The rows below a position of the span: those that its group states before it, and those of the group.
+fn rows_below(body: &[u8], span: u32, p: u32) -> u32
+    requires { ⌜ (length (now body) ≡ bitmapLength span) × (p < span) ⌝ }
+    ensures { λ r. ⌜ r ≡ bitmapBelow (now (body .entry)) span p ⌝ }
+{
+    let i = (p / 64) as usize;
+    let stated = fields::read16(body, 2 * (i / 4)) as u32;
+    let inside = ones_in(body, span, 4 * (i / 4), i)
+        + word::ones_below(word_at(body, span, i), p % 64);
+    stated + inside
+}
+
+// Whether a position of the span is a row.
+fn is_row(body: &[u8], span: u32, p: u32) -> bool
+    requires { ⌜ (length (now body) ≡ bitmapLength span) × (p < span) ⌝ }
+    ensures { λ r. ⌜ r ≡ has (bitmapNames (now (body .entry)) span) p ⌝ }
+{
+    word::is_set(word_at(body, span, (p / 64) as usize), p % 64)
+}
 
 pub fn place(body: &[u8], span: u32, count: u16, p: u32) -> Place
     requires { ⌜ length (now body) ≡ bitmapLength span ⌝ }
@@ -115,13 +135,36 @@ pub fn place(body: &[u8], span: u32, count: u16, p: u32) -> Place
             present: false,
         };
     }
-    let i = (p / 64) as usize;
-    let word = word_at(body, span, i);
-    let stated = fields::read16(body, 2 * (i / 4)) as u32;
-    let inside = ones_in(body, span, 4 * (i / 4), i) + word::ones_below(word, p % 64);
     Place {
-        below: stated + inside,
-        present: word::is_set(word, p % 64),
+        below: rows_below(body, span, p),
+        present: is_row(body, span, p),
+    }
+}
+
+// The rank of p, counted in the part that begins at base, or the number that stands for nothing. Rows are counted for a row alone.
+fn rank(body: &[u8], count: u16, base: u32, span: u32, p: u32) -> u32
+    requires { ⌜ length (now body) ≡ bitmapLength span ⌝ }
+    ensures { λ r. ⌜ r ≡ rankIn (bitmapPlace (now (body .entry)) span count) base span p ⌝ }
+{
+    if !model::lies_in(base, span, p) {
+        return 4294967295;
+    }
+    if !is_row(body, span, p - base) {
+        return 4294967295;
+    }
+    rows_below(body, span, p - base)
+}
+
+// The same of many positions.
+pub fn ranks(body: &[u8], count: u16, base: u32, span: u32, positions: &[u32], out: &mut [u32])
+    requires { ⌜ (length (now body) ≡ bitmapLength span) × (length (now positions) ≤ length (now out)) ⌝ }
+    ensures { λ _. ⌜ now (out .exit) ≡ over (ranksIn (bitmapPlace (now (body .entry)) span count) base span (now (positions .entry))) (now (out .entry)) ⌝ }
+{
+    let asked = positions.len();
+    let mut i = 0;
+    while i < asked {
+        out[i] = rank(body, count, base, span, positions[i]);
+        i += 1;
     }
 }
 

@@ -2,10 +2,10 @@
 use model::Place;
 ghost use mathlib.Core.Path.{_≡_};
 ghost use mathlib.Core.Bool.{true};
-ghost use Prim.Native.Nat.{_<_};
+ghost use Prim.Native.Nat.{_<_, _≤_};
 ghost use lib.ListN.{length, getD};
 ghost use Rattle.model.specs.Lists.{placeOf, walkOf};
-ghost use Rattle.model.specs.Answers.{Walked};
+ghost use Rattle.model.specs.Answers.{over, ranksOf, Walked};
 ghost use Rattle.bodies.specs.Bodies.{accepts, names};
 
 pub fn check(tag: u8, span: u32, body: &[u8]) -> bool
@@ -35,6 +35,17 @@ pub fn place(tag: u8, span: u32, body: &[u8], p: u32) -> Place
         return segmented::place(span, body, p);
     }
     single::place(single::parse(tag, span, body), body, p)
+}
+
+// Writes the rank of each position, or the number that stands for nothing.
+pub fn ranks(tag: u8, span: u32, body: &[u8], positions: &[u32], out: &mut [u32])
+    requires { ⌜ (accepts tag span (now body) ≡ true) × (length (now positions) ≤ length (now out)) ⌝ }
+    ensures { λ _. ⌜ now (out .exit) ≡ over (ranksOf (names tag span (now (body .entry))) (now (positions .entry))) (now (out .entry)) ⌝ }
+{
+    if tag == 9 {
+        return segmented::ranks(span, body, positions, out);
+    }
+    single::ranks(tag, span, body, positions, out);
 }
 
 pub fn select(tag: u8, span: u32, body: &[u8], k: u16) -> u32

@@ -12,12 +12,12 @@ use lib.ListN.{length, getD, drop, replicate, length-replicate}
 use borrow.Author.Tests.{eqb-true, eqb-false, le-leb}
 use Rattle.model.specs.Tests.{pick, both}
 use Rattle.model.specs.Lists.{walkOf}
-use Rattle.model.specs.Answers.{Answer, refused, over}
+use Rattle.model.specs.Answers.{Answer, refused, over, ranksOf}
 use Rattle.model.proofs.Tests.{either, pick-true, pick-false, both-second}
 use Rattle.directory.specs.declared.Segment.{Segment}
 use Rattle.bodies.specs.Bodies.{accepts, names}
-use Rattle.rowset.specs.Calls.{asked, ranksOf, ranksAnswer, ranksLeft, walkAnswer, walkLeft}
-use Rattle.rowset.proofs.Asking.{length-ranks}
+use Rattle.rowset.specs.Calls.{asked, ranksAnswer, ranksLeft, walkAnswer, walkLeft}
+use Rattle.model.proofs.Ranking.{length-ranks}
 use Rattle.tables.specs.Tables.{entriesOf, segmentsAnswer, segmentsLeft}
 use Rattle.gather.specs.declared.Gatherer.{Gatherer}
 use Rattle.gather.specs.Gather.{answered, kept, rowAnswer, rowTable, pageAnswer, pageTable}

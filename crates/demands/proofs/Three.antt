@@ -12,12 +12,12 @@ use lib.Seq.{ext-getD}
 use borrow.Author.Tests.{le-leb}
 use Rattle.fields.specs.Le.{Bytes}
 use Rattle.model.specs.Lists.{Rising, rankOf, selectOf, walkOf, positionsOf, shift}
-use Rattle.model.specs.Answers.{Answer, accepted, over}
+use Rattle.model.specs.Answers.{Answer, accepted, over, ranksOf}
 use Rattle.model.proofs.Tests.{pick-true}
 use Rattle.model.proofs.Standing.{select-is}
 use Rattle.single.specs.Single.{viewOf}
 use Rattle.bodies.specs.Bodies.{accepts, names}
-use Rattle.rowset.specs.Calls.{validateOf, rankAnswer, ranksOf, ranksAnswer, ranksLeft, selectAnswer, walkAnswer, walkLeft}
+use Rattle.rowset.specs.Calls.{validateOf, rankAnswer, ranksAnswer, ranksLeft, selectAnswer, walkAnswer, walkLeft}
 use Rattle.rowset.proofs.Asking.{answers}
 use Rattle.bodies.proofs.Laws.{names-few}
 use Rattle.bodies.proofs.Named.{names-rising, names-some, no-second-body}

@@ -4,7 +4,7 @@ ghost use mathlib.Core.Path.{_≡_};
 ghost use mathlib.Core.Bool.{true};
 ghost use Prim.Native.Nat.{_-_, _<_, _≤_};
 ghost use lib.ListN.{length};
-ghost use Rattle.model.specs.Answers.{Walked};
+ghost use Rattle.model.specs.Answers.{over, ranksIn, Walked};
 ghost use Rattle.forms.specs.Forms.{localAccepts, localSized, localPlace, localSelect, localWalk};
 
 pub fn check(tag: u8, body: &[u8], span: u32, count: u16) -> bool
@@ -71,6 +71,58 @@ pub fn place(tag: u8, body: &[u8], span: u32, count: u16, p: u32) -> Place
     Place {
         below: 0,
         present: false,
+    }
+}
+
+// Writes the rank of each position in the part that begins at base, or the number that stands for nothing. The tag is asked once.
+pub fn ranks(
+    tag: u8,
+    body: &[u8],
+    span: u32,
+    count: u16,
+    base: u32,
+    positions: &[u32],
+    out: &mut [u32],
+)
+    requires { ⌜ (localAccepts tag (now body) span count ≡ true) × (length (now positions) ≤ length (now out)) ⌝ }
+    ensures { λ _. ⌜ now (out .exit) ≡ over (ranksIn (localPlace tag (now (body .entry)) span count) base span (now (positions .entry))) (now (out .entry)) ⌝ }
+{
+    if tag == 1 {
+        return lists::dense_ranks(base, span, positions, out);
+    }
+    if tag == 2 {
+        return lists::ranks(body, count, base, span, positions, out, true);
+    }
+    if tag == 3 {
+        return lists::ranks(body, count, base, span, positions, out, false);
+    }
+    if tag == 4 {
+        return runs::ranks(
+            body,
+            runs::runs_in(body.len(), false),
+            base,
+            span,
+            positions,
+            out,
+            false,
+        );
+    }
+    if tag == 5 {
+        return runs::ranks(
+            body,
+            runs::runs_in(body.len(), true),
+            base,
+            span,
+            positions,
+            out,
+            true,
+        );
+    }
+    if tag == 6 {
+        return bitmap::ranks(body, count, base, span, positions, out);
+    }
+    if tag == 7 {
+        missing::ranks(body, holes(span, count), base, span, positions, out);
     }
 }
 

@@ -5,7 +5,7 @@ ghost use Prim.Native.Nat.{_+_, _-_, _*_, _≤_, _<_, min};
 ghost use lib.ListN.{length};
 ghost use Rattle.fields.specs.Le.{widthOf};
 ghost use lib.Seq.{sets};
-ghost use Rattle.model.specs.Answers.{Walked};
+ghost use Rattle.model.specs.Answers.{over, rankIn, ranksIn, Walked};
 ghost use Rattle.model.specs.Lists.{range, placeOf, walkOf, moved};
 ghost use Rattle.lists.specs.Lists.{item, risesBelow, listAccepts, listNames, listPlace, denseAccepts, denseNames};
 
@@ -85,6 +85,38 @@ pub fn place(body: &[u8], count: u16, p: u32, wide: bool) -> Place
     }
 }
 
+// The rank of p, counted in the part that begins at base, or the number that stands for nothing.
+fn rank(body: &[u8], count: u16, base: u32, span: u32, p: u32, wide: bool) -> u32
+    requires { ⌜ count * widthOf wide ≤ length (now body) ⌝ }
+    ensures { λ r. ⌜ r ≡ rankIn (listPlace (widthOf wide) (now (body .entry)) count) base span p ⌝ }
+{
+    if !model::lies_in(base, span, p) {
+        return 4294967295;
+    }
+    model::rank_or(place(body, count, p - base, wide))
+}
+
+// The same of many positions.
+pub fn ranks(
+    body: &[u8],
+    count: u16,
+    base: u32,
+    span: u32,
+    positions: &[u32],
+    out: &mut [u32],
+    wide: bool,
+)
+    requires { ⌜ (count * widthOf wide ≤ length (now body)) × (length (now positions) ≤ length (now out)) ⌝ }
+    ensures { λ _. ⌜ now (out .exit) ≡ over (ranksIn (listPlace (widthOf wide) (now (body .entry)) count) base span (now (positions .entry))) (now (out .entry)) ⌝ }
+{
+    let asked = positions.len();
+    let mut i = 0;
+    while i < asked {
+        out[i] = rank(body, count, base, span, positions[i], wide);
+        i += 1;
+    }
+}
+
 pub fn select(body: &[u8], k: u16, wide: bool) -> u32
     requires { ⌜ (k + 1) * widthOf wide ≤ length (now body) ⌝ }
     ensures { λ r. ⌜ r ≡ item (widthOf wide) (now (body .entry)) k ⌝ }
@@ -158,6 +190,29 @@ pub fn dense_place(span: u32, p: u32) -> Place
             below: span,
             present: false,
         }
+    }
+}
+
+// The rank of p, counted in the part that begins at base, or the number that stands for nothing.
+fn dense_rank(base: u32, span: u32, p: u32) -> u32
+    ensures { λ r. ⌜ r ≡ rankIn (placeOf (denseNames span)) base span p ⌝ }
+{
+    if !model::lies_in(base, span, p) {
+        return 4294967295;
+    }
+    model::rank_or(dense_place(span, p - base))
+}
+
+// The same of many positions.
+pub fn dense_ranks(base: u32, span: u32, positions: &[u32], out: &mut [u32])
+    requires { ⌜ length (now positions) ≤ length (now out) ⌝ }
+    ensures { λ _. ⌜ now (out .exit) ≡ over (ranksIn (placeOf (denseNames span)) base span (now (positions .entry))) (now (out .entry)) ⌝ }
+{
+    let asked = positions.len();
+    let mut i = 0;
+    while i < asked {
+        out[i] = dense_rank(base, span, positions[i]);
+        i += 1;
     }
 }
 

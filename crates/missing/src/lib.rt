@@ -3,7 +3,7 @@ use model::Place;
 ghost use mathlib.Core.Path.{_≡_};
 ghost use Prim.Native.Nat.{_+_, _-_, _*_, _≤_, _<_, min};
 ghost use lib.ListN.{length, take};
-ghost use Rattle.model.specs.Answers.{Walked};
+ghost use Rattle.model.specs.Answers.{over, rankIn, ranksIn, Walked};
 ghost use Rattle.model.specs.Lists.{moved};
 ghost use Rattle.missing.specs.Missing.{missingAccepts, missingPlace, holesBefore, missingSelect, missingFrom, Stretched};
 
@@ -47,6 +47,30 @@ pub fn place(body: &[u8], span: u32, holes: u16, p: u32) -> Place
     Place {
         below: less(p, hole.below),
         present: !hole.present,
+    }
+}
+
+// The rank of p, counted in the part that begins at base, or the number that stands for nothing.
+fn rank(body: &[u8], holes: u16, base: u32, span: u32, p: u32) -> u32
+    requires { ⌜ holes * 2 ≤ length (now body) ⌝ }
+    ensures { λ r. ⌜ r ≡ rankIn (missingPlace (now (body .entry)) span holes) base span p ⌝ }
+{
+    if !model::lies_in(base, span, p) {
+        return 4294967295;
+    }
+    model::rank_or(place(body, span, holes, p - base))
+}
+
+// The same of many positions.
+pub fn ranks(body: &[u8], holes: u16, base: u32, span: u32, positions: &[u32], out: &mut [u32])
+    requires { ⌜ (holes * 2 ≤ length (now body)) × (length (now positions) ≤ length (now out)) ⌝ }
+    ensures { λ _. ⌜ now (out .exit) ≡ over (ranksIn (missingPlace (now (body .entry)) span holes) base span (now (positions .entry))) (now (out .entry)) ⌝ }
+{
+    let asked = positions.len();
+    let mut i = 0;
+    while i < asked {
+        out[i] = rank(body, holes, base, span, positions[i]);
+        i += 1;
     }
 }
 

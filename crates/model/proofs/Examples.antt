@@ -3,9 +3,9 @@
 use mathlib.Core.Path.{_≡_, refl}
 use mathlib.Core.List.{List, [], _∷_, _++_}
 use Prim.Native.Nat.{ℕ}
-use Rattle.model.specs.Tests.{pick}
-use Rattle.model.specs.Lists.{below, has, rankOf, selectOf, walkOf, range, shift, complement, run, spread, onto, runsOf}
-use Rattle.model.specs.Answers.{over}
+use Rattle.model.specs.Tests.{both, pick}
+use Rattle.model.specs.Lists.{below, has, placeOf, rankOf, selectOf, walkOf, range, shift, complement, run, spread, onto, runsOf}
+use Rattle.model.specs.Answers.{over, rankOrNone, ranksOf, liesIn, rankIn, ranksIn}
 
 -- [0,10), all but 4
 all-but-4 : List ℕ
@@ -32,6 +32,16 @@ spread-out = refl
 ranked : (rankOf (3 ∷ 4 ∷ 5 ∷ []) 4 ≡ 1 ∷ []) × (rankOf (3 ∷ 4 ∷ 5 ∷ []) 7 ≡ [])
 unfolding rankOf has below pick
 ranked = (refl, refl)
+
+-- asked together: 4,294,967,295 stands for none
+many : ranksOf (3 ∷ 4 ∷ 5 ∷ []) (4 ∷ 7 ∷ []) ≡ 1 ∷ 4294967295 ∷ []
+unfolding ranksOf rankOrNone placeOf has below pick
+many = refl
+
+-- a part of span 3 that begins at 100: its second position, the one before the part, and the one behind it
+in-part : ranksIn (placeOf (0 ∷ 1 ∷ 2 ∷ [])) 100 3 (101 ∷ 99 ∷ 103 ∷ []) ≡ 1 ∷ 4294967295 ∷ 4294967295 ∷ []
+unfolding rankIn liesIn both rankOrNone placeOf has below pick
+in-part = refl
 
 selected : (selectOf (3 ∷ 4 ∷ 5 ∷ []) 1 ≡ 4 ∷ []) × (selectOf (3 ∷ 4 ∷ 5 ∷ []) 3 ≡ [])
 selected = (refl, refl)

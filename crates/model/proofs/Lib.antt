@@ -14,4 +14,5 @@ pub mod Complement
 pub mod Runs
 pub mod Positions
 pub mod Answers
+pub mod Ranking
 pub mod Examples

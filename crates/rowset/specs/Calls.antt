@@ -5,9 +5,9 @@ use Prim.Native.Nat.{ℕ}
 use lib.Dec.{eqb, leb, ltb}
 use lib.ListN.{length}
 use Rattle.model.specs.Tests.{pick}
-use Rattle.model.specs.Lists.{placeOf, rankOf, selectOf, walkOf}
+use Rattle.model.specs.Lists.{rankOf, selectOf, walkOf}
 use Rattle.model.specs.declared.Place.{Place}
-use Rattle.model.specs.Answers.{Answer, accepted, refused, over}
+use Rattle.model.specs.Answers.{Answer, accepted, refused, over, ranksOf}
 use Rattle.directory.specs.Directory.{statedSegments, entryOf}
 use Rattle.directory.specs.declared.Segment.{Segment}
 use Rattle.bodies.specs.Bodies.{accepts, names}
@@ -69,15 +69,7 @@ selectAnswer tag span xs k = asked tag span xs (accepted (selectOf (names tag sp
 unfoldable pub rowOf : Place → List ℕ
 rowOf q = pick (q .present) (q .below ∷ []) []
 
--- many ranks: one answer for each query, 4,294,967,295 for nothing
-unfoldable pub rankOrNone : Place → ℕ
-rankOrNone q = pick (q .present) (q .below) 4294967295
-
-unfoldable pub ranksOf : List ℕ → List ℕ → List ℕ
-ranksOf rows [] = []
-ranksOf rows (p ∷ ps) = rankOrNone (placeOf rows p) ∷ ranksOf rows ps
-
--- 8, then 7 where the output is shorter than the queries
+-- many ranks: 8, then 7 where the output is shorter than the queries
 unfoldable pub ranksAnswer : ℕ → ℕ → List ℕ → List ℕ → ℕ → Answer
 ranksAnswer tag span xs ps room = asked tag span xs (pick (leb (length ps) room) (accepted (length ps ∷ [])) (refused 7))
 

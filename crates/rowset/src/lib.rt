@@ -2,12 +2,10 @@
 use directory::Segment;
 use model::Place;
 ghost use mathlib.Core.Path.{_≡_};
-ghost use mathlib.Core.Bool.{true};
 ghost use Prim.Native.Nat.{_≤_};
 ghost use lib.ListN.{length};
-ghost use Rattle.model.specs.Answers.{accepted, over};
-ghost use Rattle.bodies.specs.Bodies.{accepts, names};
-ghost use Rattle.rowset.specs.Calls.{checkedOf, rankedOf, selectedOf, filledOf, entryAnswer, validateOf, rankAnswer, selectAnswer, rowOf, rankOrNone, ranksOf, ranksAnswer, ranksLeft, walkAnswer, walkLeft, segmentAnswer};
+ghost use Rattle.model.specs.Answers.{accepted};
+ghost use Rattle.rowset.specs.Calls.{checkedOf, rankedOf, selectedOf, filledOf, entryAnswer, validateOf, rankAnswer, selectAnswer, rowOf, ranksAnswer, ranksLeft, walkAnswer, walkLeft, segmentAnswer};
 
 // The count of an accepted body.
 pub enum Checked {
@@ -83,25 +81,6 @@ pub fn select(tag: u8, span: u32, body: &[u8], ordinal: u16) -> Selected
     Selected::Position(bodies::select(tag, span, body, ordinal))
 }
 
-// The rank of one query, or the number that stands for nothing.
-fn rank_or(q: Place) -> u32
-    ensures { λ r. ⌜ r ≡ rankOrNone q ⌝ }
-{
-    if q.present { q.below } else { 4294967295 }
-}
-
-fn write_ranks(tag: u8, span: u32, body: &[u8], positions: &[u32], out: &mut [u32])
-    requires { ⌜ (accepts tag span (now body) ≡ true) × (length (now positions) ≤ length (now out)) ⌝ }
-    ensures { λ _. ⌜ now (out .exit) ≡ over (ranksOf (names tag span (now (body .entry))) (now (positions .entry))) (now (out .entry)) ⌝ }
-{
-    let n = positions.len();
-    let mut i = 0;
-    while i < n {
-        out[i] = rank_or(bodies::place(tag, span, body, positions[i]));
-        i += 1;
-    }
-}
-
 // One answer for each query. The body is validated once.
 pub fn ranks(tag: u8, span: u32, body: &[u8], positions: &[u32], out: &mut [u32]) -> Filled
     ensures { λ r. ⌜ filledOf r ≡ ranksAnswer tag span (now (body .entry)) (now (positions .entry)) (length (now (out .entry))) ⌝ }
@@ -113,7 +92,7 @@ pub fn ranks(tag: u8, span: u32, body: &[u8], positions: &[u32], out: &mut [u32]
     if out.len() < positions.len() {
         return Filled::Refused(7);
     }
-    write_ranks(tag, span, body, positions, out);
+    bodies::ranks(tag, span, body, positions, out);
     Filled::Written(positions.len())
 }
 

@@ -5,7 +5,7 @@ ghost use Prim.Native.Nat.{_+_, _-_, _*_, _/_, _^_, _≤_, _<_, min};
 ghost use lib.ListN.{length, take};
 ghost use lib.Seq.{sets};
 ghost use Rattle.model.specs.Lists.{range, moved};
-ghost use Rattle.model.specs.Answers.{Walked};
+ghost use Rattle.model.specs.Answers.{over, rankOrNone, rankIn, ranksIn, Walked};
 ghost use Rattle.fields.specs.Le.{widthOf};
 ghost use Rattle.runs.specs.Runs.{strideOf, fits, mostOf, runsStand, runsAccepts};
 ghost use Rattle.runs.specs.Asked.{entryOf, startsTo, beforeTo, placeIn, runsPlace, nthOf, runsSelect, runsFrom, runsWalk};
@@ -155,6 +155,50 @@ pub fn place(body: &[u8], runs: usize, p: u32, wide: bool) -> Place
         };
     }
     place_in(read(body, found - 1, wide), p)
+}
+
+// The rank of p by the last run that starts at p or before, or the number that stands for nothing.
+fn rank_by(e: Entry, p: u32) -> u32
+    requires { ⌜ e .start ≤ p ⌝ }
+    ensures { λ r. ⌜ r ≡ rankOrNone (placeIn e p) ⌝ }
+{
+    model::rank_or(place_in(e, p))
+}
+
+// The rank of p, counted in the part that begins at base. It goes as `place` does; with a place kept between, a query took twice the time.
+fn rank(body: &[u8], runs: usize, base: u32, span: u32, p: u32, wide: bool) -> u32
+    requires { ⌜ runs * strideOf (widthOf wide) ≤ length (now body) ⌝ }
+    ensures { λ r. ⌜ r ≡ rankIn (runsPlace (widthOf wide) (now (body .entry)) runs) base span p ⌝ }
+{
+    if !model::lies_in(base, span, p) {
+        return 4294967295;
+    }
+    let found = starts_to(body, runs, p - base, wide);
+    if found == 0 {
+        return 4294967295;
+    }
+    rank_by(read(body, found - 1, wide), p - base)
+}
+
+// The same of many positions.
+pub fn ranks(
+    body: &[u8],
+    runs: usize,
+    base: u32,
+    span: u32,
+    positions: &[u32],
+    out: &mut [u32],
+    wide: bool,
+)
+    requires { ⌜ (runs * strideOf (widthOf wide) ≤ length (now body)) × (length (now positions) ≤ length (now out)) ⌝ }
+    ensures { λ _. ⌜ now (out .exit) ≡ over (ranksIn (runsPlace (widthOf wide) (now (body .entry)) runs) base span (now (positions .entry))) (now (out .entry)) ⌝ }
+{
+    let asked = positions.len();
+    let mut i = 0;
+    while i < asked {
+        out[i] = rank(body, runs, base, span, positions[i], wide);
+        i += 1;
+    }
 }
 
 // The position of ordinal k in its run.

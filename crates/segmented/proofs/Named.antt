@@ -10,10 +10,10 @@ use lib.ListN.{length, getD, take, drop, length-drop}
 use lib.Seq.{length-take-le}
 use Rattle.fields.specs.Le.{Bytes}
 use Rattle.fields.proofs.Laws.{bytes-tail, bytes-front}
-use Rattle.model.specs.Lists.{Rising, below, placeOf, walkOf, moved}
+use Rattle.model.specs.Lists.{Rising, below, has, placeOf, walkOf, moved}
 use Rattle.model.specs.declared.Place.{Place}
 use Rattle.model.proofs.Tests.{both-left, both-right, all-at}
-use Rattle.model.proofs.Standing.{below-most}
+use Rattle.model.proofs.Standing.{below-most, below-whole, has-outside}
 use Rattle.model.proofs.Rising.{rising-below}
 use Rattle.directory.specs.Directory.{statedSegments, statedCount, startsTo, ordinalsTo, startAt, ordinalAt, tagAt, spanAt, countAt, offsetAt, lengthAt, entryOf, partOf, directoryAccepts, namesOf}
 use Rattle.directory.specs.declared.Segment.{Segment}
@@ -93,6 +93,18 @@ module _ (span : ℕ) (xs : List ℕ) (ok : segmentedAccepts span xs ≡ true) w
 
       pub placed : (f ≡ 0 → ⊥) → Placed xs (partNames xs) p (f - 1)
       placed z = place-in directory-of parts-named p size found (omega arith)
+
+      -- behind the segment's span all its rows are before p
+      pub segment-passed : {e : Segment} → (f ≡ 0 → ⊥) → e ≡ entryOf xs (f - 1) → e .span ≤ p - e .start → record { below = e .ordinal + e .count; present = false } ≡ placeOf (segmentedNames xs) p
+      unfolding placeOf segmentedNames entryOf
+      segment-passed z q h =
+          let i = f - 1 in
+          let w = placed z in
+          let rises = parts-named .rising i (w .inside) in
+          let past : spanAt xs i ≤ p - startAt xs i = rw q at h in
+          let whole : below (partNames xs i) (p - startAt xs i) ≡ countAt xs i = below-whole rises (p - startAt xs i) past ∙ parts-named .sized i (w .inside) in
+          let none : has (partNames xs i) (p - startAt xs i) ≡ false = has-outside rises (p - startAt xs i) (λ u. omega (arith, u .1)) in
+          rw (q, w .rows, w .present, whole, none)
 
       pub segment-answers : {e : Segment} {r : Place} → (f ≡ 0 → ⊥) → e ≡ entryOf xs (f - 1) → r ≡ placeIn e xs p → r ≡ placeOf (segmentedNames xs) p
       unfolding placeOf segmentedNames countedFrom

@@ -7,7 +7,7 @@ ghost use Prim.Native.Nat.{_+_, _-_, _≤_, _<_};
 ghost use lib.ListN.{length, getD};
 ghost use Rattle.model.specs.Tests.{all};
 ghost use Rattle.model.specs.Lists.{placeOf, walkOf};
-ghost use Rattle.model.specs.Answers.{Walked};
+ghost use Rattle.model.specs.Answers.{over, rankOrNone, ranksOf, Walked};
 ghost use Rattle.directory.specs.Directory.{statedCount, statedSegments, countAt, rowsBefore, directoryAccepts};
 ghost use Rattle.segmented.specs.Segmented.{partAccepts, segmentedAccepts, segmentedNames, PartReadable, placeIn, selectIn, walkIn, WalkedAt};
 
@@ -61,7 +61,7 @@ fn place_in(e: Segment, body: &[u8], p: u32) -> Place
     }
 }
 
-// Where p stands: in the last segment that starts at p or before.
+// Where p stands: in the last segment that starts at p or before, or behind it, where its part need not be read.
 pub fn place(span: u32, body: &[u8], p: u32) -> Place
     requires { ⌜ segmentedAccepts span (now body) ≡ true ⌝ }
     ensures { λ r. ⌜ r ≡ placeOf (segmentedNames (now (body .entry))) p ⌝ }
@@ -74,7 +74,38 @@ pub fn place(span: u32, body: &[u8], p: u32) -> Place
             present: false,
         };
     }
-    place_in(directory::entry(body, found - 1), body, p)
+    let e = directory::entry(body, found - 1);
+    if e.span as u32 <= p - e.start {
+        return Place {
+            below: e.ordinal as u32 + e.count as u32,
+            present: false,
+        };
+    }
+    place_in(e, body, p)
+}
+
+// The rank of p, or the number that stands for nothing.
+fn rank(span: u32, body: &[u8], p: u32) -> u32
+    requires { ⌜ segmentedAccepts span (now body) ≡ true ⌝ }
+    ensures { λ r. ⌜ r ≡ rankOrNone (placeOf (segmentedNames (now (body .entry))) p) ⌝ }
+{
+    if span <= p {
+        return 4294967295;
+    }
+    model::rank_or(place(span, body, p))
+}
+
+// The same of many positions.
+pub fn ranks(span: u32, body: &[u8], positions: &[u32], out: &mut [u32])
+    requires { ⌜ (segmentedAccepts span (now body) ≡ true) × (length (now positions) ≤ length (now out)) ⌝ }
+    ensures { λ _. ⌜ now (out .exit) ≡ over (ranksOf (segmentedNames (now (body .entry))) (now (positions .entry))) (now (out .entry)) ⌝ }
+{
+    let asked = positions.len();
+    let mut i = 0;
+    while i < asked {
+        out[i] = rank(span, body, positions[i]);
+        i += 1;
+    }
 }
 
 // The row of ordinal k, which the segment holds.

@@ -17,10 +17,12 @@ use Rattle.model.proofs.Rising.{rising-below}
 use Rattle.model.proofs.Standing.{place-before}
 use Rattle.model.proofs.Append.{place-shift, shift-rising, length-shift, getD-shift}
 use Rattle.model.proofs.Writing.{moved-walk}
+use Rattle.model.specs.Answers.{ranksOf, ranksIn}
+use Rattle.model.proofs.Ranking.{map-same, part-rank}
 use Rattle.model.proofs.Counted.{Count, counted-count}
 use Rattle.forms.specs.Forms.{localAccepts, localPlace}
 use Rattle.forms.proofs.Laws.{local-sized, local-counted, local-rising, local-length, local-place, local-select, local-walk}
-use Rattle.single.specs.Single.{headerOf, viewOf, namedIn, partIn, endsOk, viewAccepts, singleAccepts, Readable, viewPlace, viewSelect, viewWalk}
+use Rattle.single.specs.Single.{headerOf, viewOf, namedIn, partIn, endsOk, viewAccepts, singleAccepts, singleNames, Readable, viewPlace, viewSelect, viewWalk}
 use Rattle.single.specs.declared.View.{View}
 use Rattle.single.proofs.Laws.{starts}
 
@@ -89,6 +91,10 @@ module _ (v : View) (span : ℕ) (xs : List ℕ) (p : Parts v span xs) where
             let e : v .base + (q - v .base) ≡ q = omega arith in
             rw e at (place-shift (v .base) (namedIn v xs) (q - v .base))
 
+    view-ranks : (ps : List ℕ) → ranksIn (localPlace (v .form) (partIn v xs) (v .span) (v .count)) (v .base) (v .span) ps ≡ ranksOf (shift (v .base) (namedIn v xs)) ps
+    unfolding ranksOf
+    view-ranks ps = map-same (λ q. part-rank (localPlace (v .form) (partIn v xs) (v .span) (v .count)) (v .base) q named-rising (local-place-named v xs (p .local) part-bytes)) ps
+
     pub view-select : span < 4294967296 → (k : ℕ) → k < v .count → viewSelect v xs k ≡ getD (shift (v .base) (namedIn v xs)) k 0
     unfolding viewSelect namedIn
     view-select small k h =
@@ -101,6 +107,12 @@ module _ (v : View) (span : ℕ) (xs : List ℕ) (p : Parts v span xs) where
     view-walk small k room =
         local-walk (v .form) (partIn v xs) (v .span) (v .count) (p .local) part-bytes k (v .base) room
         ∙ moved-walk (v .base) (omega (arith, p .inside)) named-rising k room
+
+-- the ranks of the local form by the view that was read
+pub single-ranks : (tag span : ℕ) (xs : List ℕ) {v : View} → v ≡ viewOf tag span xs → singleAccepts tag span xs ≡ true → Bytes xs → (ps : List ℕ)
+    → ranksIn (localPlace (v .form) (partIn v xs) (v .span) (v .count)) (v .base) (v .span) ps ≡ ranksOf (singleNames tag span xs) ps
+unfolding singleNames
+single-ranks tag span xs q ok b ps = rw q (view-ranks (viewOf tag span xs) span xs (single-parts tag span xs ok) b ps)
 
 -- the header of an accepted body is there
 pub accepted-header : (tag span : ℕ) (xs : List ℕ) → singleAccepts tag span xs ≡ true → headerOf tag ≤ length xs

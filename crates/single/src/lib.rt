@@ -6,9 +6,9 @@ ghost use Prim.Native.Nat.{_+_, _-_, _≤_, _<_};
 ghost use lib.ListN.{length};
 ghost use Rattle.model.specs.Tests.{both};
 ghost use Rattle.model.specs.Lists.{has};
-ghost use Rattle.model.specs.Answers.{Walked};
+ghost use Rattle.model.specs.Answers.{over, ranksOf, Walked};
 ghost use Rattle.forms.specs.Forms.{localAccepts, localNames};
-ghost use Rattle.single.specs.Single.{fit, headerOf, view, bitmapView, trimmedMissingView, viewOf, fieldsOk, viewAccepts, singleAccepts, Readable, viewPlace, viewSelect, viewWalk};
+ghost use Rattle.single.specs.Single.{fit, headerOf, view, bitmapView, trimmedMissingView, viewOf, fieldsOk, viewAccepts, singleAccepts, singleNames, Readable, viewPlace, viewSelect, viewWalk};
 
 // Where a body keeps its parts: the local form, whether it is trimmed, its base, span and count, and where its bytes start.
 pub struct View {
@@ -202,6 +202,16 @@ pub fn place(v: View, body: &[u8], p: u32) -> Place
     }
     let at = v.offset;
     forms::place(v.form, &body[at..], v.span, v.count, p - v.base)
+}
+
+// Writes the rank of each position in an accepted body, or the number that stands for nothing. The header is read once.
+pub fn ranks(tag: u8, span: u32, body: &[u8], positions: &[u32], out: &mut [u32])
+    requires { ⌜ (singleAccepts tag span (now body) ≡ true) × (length (now positions) ≤ length (now out)) ⌝ }
+    ensures { λ _. ⌜ now (out .exit) ≡ over (ranksOf (singleNames tag span (now (body .entry))) (now (positions .entry))) (now (out .entry)) ⌝ }
+{
+    let v = parse(tag, span, body);
+    let at = v.offset;
+    forms::ranks(v.form, &body[at..], v.span, v.count, v.base, positions, out);
 }
 
 // The row of ordinal k.

@@ -20,4 +20,4 @@ ranks-spec =
     (λ c. (answers _ _ _ (met (c .before .before .check .ensures) (c .before .if1 .left)) (sym (pick-false _ _ (lt-leb _ _ (c .if2 .taken)))), sym (pick-true _ _ (met (c .before .before .check .ensures) (c .before .if1 .left)) ∙ pick-false _ _ (lt-leb _ _ (c .if2 .taken)))))
     (λ c κs. (met (c .before .before .before .check .ensures) (c .before .before .if1 .left), c .before .if2 .left))
     (λ c. search needs)
-    (λ c. (answers _ _ _ (met (c .before .before .before .before .before .before .check .ensures) (c .before .before .before .before .before .if1 .left)) (sym (pick-true _ _ (le-leb _ _ (c .before .before .before .before .if2 .left)))), c .before .before .write-ranks .ensures ∙ sym (pick-true _ _ (met (c .before .before .before .before .before .before .check .ensures) (c .before .before .before .before .before .if1 .left)) ∙ pick-true _ _ (le-leb _ _ (c .before .before .before .before .if2 .left))))))
+    (λ c. (answers _ _ _ (met (c .before .before .before .before .before .before .check .ensures) (c .before .before .before .before .before .if1 .left)) (sym (pick-true _ _ (le-leb _ _ (c .before .before .before .before .if2 .left)))), c .before .before .ranks .ensures ∙ sym (pick-true _ _ (met (c .before .before .before .before .before .before .check .ensures) (c .before .before .before .before .before .if1 .left)) ∙ pick-true _ _ (le-leb _ _ (c .before .before .before .before .if2 .left))))))
