@@ -124,6 +124,25 @@ pub(super) fn gather_singly_by_value(rows: &[u64], table: &mut [u16]) -> usize {
     record.entries
 }
 
+/// A call on a lent record that does nothing but count: the number lies in memory, and each call
+/// waits for what the last one has stored.
+extern "C" fn counted_lent(record: &mut Gathering, _: *mut u16, _: usize, row: u64) -> u8 {
+    record.rows += 1;
+    record.last = row;
+    0
+}
+
+#[inline]
+pub(super) fn count_lent(rows: &[u64], table: &mut [u16]) -> usize {
+    let call: extern "C" fn(&mut Gathering, *mut u16, usize, u64) -> u8 = black_box(counted_lent);
+    let mut record = Gathering::default();
+    let (entries, room) = (table.as_mut_ptr(), table.len());
+    for row in rows {
+        assert!(call(&mut record, entries, room, *row) == 0, "a call that refuses nothing");
+    }
+    record.rows
+}
+
 /// A call with a record by value that does nothing but count: what passing it to and fro takes.
 extern "C" fn counted(record: Gathering, _: *mut u16, _: usize, row: u64) -> Gathered {
     let record = Gathering { rows: record.rows + 1, last: row, ..record };

@@ -2,20 +2,21 @@
 
 use super::bodies::{FORMS, Long, largest_bitmap, long};
 use super::clock::{Pair, turns};
-use super::direct::Set;
-use super::inputs::{Input, for_merging};
+use super::direct::{Set, gather_singly};
+use super::inputs::{Input, for_merging, runs};
 use super::meter::Meter;
 use super::planning::{PAGE, plan};
 use super::ratios::{digits, told};
 use super::subject::QUESTIONS;
 use super::{begin, end, head, progress};
 use crate::case::Case;
-use crate::index::original::Accepted;
+use crate::index::original::{Accepted, Seeds, row_ids};
 use crate::random::Random;
 use std::hint::black_box;
 
 const ROWS: [usize; 4] = [1_000, 4_000, 16_000, 65_535];
 const SEEDS: [usize; 4] = [64, 512, 4_096, 65_535];
+const RUNS: [u64; 12] = [1, 2, 3, 5, 10, 15, 20, 25, 30, 40, 60, 200];
 const BYTES: [u64; 7] = [1_000, 8_000, 64_000, 128_000, 256_000, 512_000, 1_000_000];
 
 pub(super) fn tables() {
@@ -41,7 +42,30 @@ pub(super) fn tables() {
         cells(input.name, "65,535", &shared.map(by_seed), 2);
     }
     end("growth-seeds");
+    progress("single rows by the length of runs");
+    begin("growth-runs");
+    let name = |length: u64| format!("runs of {length}");
+    let names = RUNS.map(name);
+    let columns = ["gathering single rows"].into_iter().chain(names.iter().map(String::as_str));
+    head(&columns.collect::<Vec<_>>());
+    let pairs = RUNS.map(single_rows);
+    println!("| ns to a row | {} |", pairs.map(told).join(" | "));
+    println!("| ratio | {} |", pairs.map(|pair| format!("{:.2}", pair.ratio())).join(" | "));
+    end("growth-runs");
     reading();
+}
+
+/// Some 60,000 rows one by one, in runs that are far apart, so that each begins a seed.
+fn single_rows(length: u64) -> Pair {
+    let rows: Vec<u64> = runs(60_000 / length, 100_000, length).collect();
+    let (ids, mut table) = (row_ids(&rows), vec![1; rows.len()]);
+    let mut once = || {
+        turns(
+            || gather_singly(black_box(&rows), black_box(&mut table)),
+            || Seeds::singly(black_box(&ids)),
+        )
+    };
+    once().least(once()).least(once()).each(rows.len())
 }
 
 /// The least of three measurements.

@@ -47,7 +47,7 @@ fn holed(from: u64) -> impl Iterator<Item = u64> {
 }
 
 /// Runs of that length, their first rows that far apart.
-fn runs(count: u64, apart: u64, length: u64) -> impl Iterator<Item = u64> {
+pub(super) fn runs(count: u64, apart: u64, length: u64) -> impl Iterator<Item = u64> {
     (0..count).flat_map(move |run| run * apart..run * apart + length)
 }
 

@@ -3,7 +3,7 @@
 
 use super::clock::Pair;
 use super::direct::{
-    count_by_value, gather, gather_by_value, gather_singly, gather_singly_by_value,
+    count_by_value, count_lent, gather, gather_by_value, gather_singly, gather_singly_by_value,
 };
 use super::meter::{Measured, Meter};
 use super::subject::Subject;
@@ -115,6 +115,10 @@ fn gathering_pages_of(size: usize, subject: &Subject, meter: Meter) -> Option<Me
 
 pub(super) fn gathering_singly(subject: &Subject, meter: Meter) -> Option<Measured> {
     singly(subject, meter, gather_singly)
+}
+
+pub(super) fn counting_lent(subject: &Subject, meter: Meter) -> Option<Measured> {
+    singly(subject, meter, count_lent)
 }
 
 /// Row by row, by any of the calls.

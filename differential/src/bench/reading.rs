@@ -41,7 +41,18 @@ pub(super) fn ranks_in_order(subject: &Subject, meter: Meter) -> Option<Measured
 }
 
 pub(super) fn ranks_of_absent(subject: &Subject, meter: Meter) -> Option<Measured> {
-    let positions = &subject.questions.absent;
+    some_ranks(subject, meter, &subject.questions.absent)
+}
+
+pub(super) fn ranks_beside_rows(subject: &Subject, meter: Meter) -> Option<Measured> {
+    some_ranks(subject, meter, &subject.questions.beside)
+}
+
+pub(super) fn ranks_past_the_span(subject: &Subject, meter: Meter) -> Option<Measured> {
+    some_ranks(subject, meter, &subject.questions.past)
+}
+
+fn some_ranks(subject: &Subject, meter: Meter, positions: &[u32]) -> Option<Measured> {
     (!positions.is_empty()).then(|| ranks(subject, meter, positions))
 }
 

@@ -77,8 +77,13 @@ impl Subject {
 /// Random questions about a row set.
 pub(super) struct Questions {
     pub(super) present: Vec<u32>,
-    /// None where no position is absent.
+    /// Absent positions of the span. None where no position is absent.
     pub(super) absent: Vec<u32>,
+    /// Absent positions too, each the first one behind some row: where rows stand close together,
+    /// `absent` has few of those.
+    pub(super) beside: Vec<u32>,
+    /// Positions that are not of the span.
+    pub(super) past: Vec<u32>,
     pub(super) ordinals: Vec<u16>,
 }
 
@@ -89,13 +94,21 @@ impl Questions {
         let ordinals: Vec<u16> = (0..QUESTIONS).map(|_| random.below(count) as u16).collect();
         let position = |ordinal: &u16| (case.rows[usize::from(*ordinal)] - case.start) as u32;
         let present = ordinals.iter().map(position).collect();
-        let mut absent = Vec::new();
+        let is_row = |position: u64| case.rows.binary_search(&(case.start + position)).is_ok();
+        let (mut absent, mut beside) = (Vec::new(), Vec::new());
         while absent.len() < QUESTIONS && count < span {
             let position = random.below(span);
-            if case.rows.binary_search(&(case.start + position)).is_err() {
+            if !is_row(position) {
                 absent.push(position as u32);
             }
         }
-        Self { present, absent, ordinals }
+        while beside.len() < QUESTIONS && count < span {
+            let row = case.rows[random.below(count) as usize] - case.start;
+            if let Some(position) = (row..span).find(|position| !is_row(*position)) {
+                beside.push(position as u32);
+            }
+        }
+        let past = (0..QUESTIONS).map(|_| (span + random.below((1 << 32) - span)) as u32).collect();
+        Self { present, absent, beside, past, ordinals }
     }
 }
