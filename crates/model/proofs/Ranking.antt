@@ -3,7 +3,7 @@
 use mathlib.Core.Path.{_≡_, refl, sym, ap, _∙_}
 use mathlib.Core.Bool.{true, false}
 use mathlib.Core.Logic.{⊎-elim}
-use mathlib.Core.List.{List, [], _∷_, _++_, map}
+use mathlib.Core.List.{List, [], _∷_, _++_, map, map-append, map-congr-left}
 use Prim.Native.Nat.{ℕ, _+_, _-_, _<_, _≤_}
 use native.Mathlib.Numerals.{add-one}
 use native.Mathlib.Omega.{arith}
@@ -20,13 +20,8 @@ use Rattle.model.proofs.Writing.{over-none, over-length, over-next}
 
 -- ---- a loop that answers query after query: i are answered
 
-map-append : {A B : Type 0} (f : A → B) (xs ys : List A) → map f (xs ++ ys) ≡ map f xs ++ map f ys
-map-append f [] ys = refl
-map-append f (x ∷ xs) ys = ap (λ zs. f x ∷ zs) (map-append f xs ys)
-
 pub map-same : {A B : Type 0} {f g : A → B} → ((x : A) → f x ≡ g x) → (xs : List A) → map f xs ≡ map g xs
-map-same e [] = refl
-map-same e (x ∷ xs) = rw (e x, map-same e xs)
+map-same e xs = map-congr-left {l = xs} (λ a _. e a)
 
 pub record Answering (f : ℕ → ℕ) (ps before out : List ℕ) (i : ℕ) : Type 0 where
   pub upto : i ≤ length ps
