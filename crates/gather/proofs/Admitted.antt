@@ -4,7 +4,7 @@ use mathlib.Core.Path.{_≡_, refl, sym, _∙_}
 use mathlib.Core.Bool.{Bool, true, false}
 use mathlib.Core.Logic.{⊎-elim}
 use mathlib.Core.List.{List}
-use Prim.Native.Nat.{ℕ, zero, suc, _+_, _-_, _/_, _<_, _≤_}
+use Prim.Native.Nat.{ℕ, zero, suc, _+_, _/_, _<_, _≤_}
 use native.Mathlib.Omega.{arith}
 use lib.Dec.{eqb, ltb}
 use lib.ListN.{length, length-set}
@@ -13,7 +13,7 @@ use Rattle.model.specs.Tests.{pick}
 use Rattle.model.specs.Answers.{accepted, refused}
 use Rattle.model.proofs.Tests.{either, never, pick-true, pick-false}
 use Rattle.gather.specs.declared.Gatherer.{Gatherer}
-use Rattle.gather.specs.Gather.{valuesOf, answered, kept, impossible, above, early, late, orElse, joins, added, addedTo, rowNumber, Counted, Follows, GoesOn}
+use Rattle.gather.specs.Gather.{valuesOf, answered, kept, impossible, above, early, late, orElse, joins, added, addedTo, rowNumber, Counted, Follows, Goes}
 
 -- ---- a chain of tests that came out 0, or false
 
@@ -201,6 +201,10 @@ module _ (g : Gatherer) (room row : ℕ) where
       let up = last-above g row (λ z. omega (arith, a .in-rows)) l in
       record { some = some; number = passing g room (above g row) 1 (record { able = a; rises = up; counted = record { few = omega arith; in-rows = a .in-rows; some = a .some } }) }
 
+  -- a row that begins a seed, if there is room
+  abbrev pub Begins : Type 0
+  Begins = (early g room (above g row) 1 ≡ 0) × (joins g row ≡ false)
+
   module _ (f : Follows g room row) where
     -- what the tests that it passed say
     pub followed : Passed g room (above g row) 1
@@ -215,26 +219,56 @@ module _ (g : Gatherer) (room row : ℕ) where
     pub followed-above : g .last < row
     followed-above = above-last g row (followed .rises) some-rows
 
-    pub has-room : g .entries < room → rowNumber g room row ≡ 0
-    unfolding rowNumber
-    has-room free = second-decides _ _ (f .number) ∙ fitting (added g row) room (omega (arith, after g row .high))
-
-    pub goes-on : g .first / 4096 ≡ row / 4096 → GoesOn g room row
+    pub goes-on : g .first / 4096 ≡ row / 4096 → Goes true g room row
     unfolding rowNumber joins
     goes-on w =
         let a = followed .able in
         let j : joins g row ≡ true = pick-false _ _ (ne-eqb (g .rows) 0 some-rows) ∙ eq-eqb _ _ (sym w) in
         record { in-seed = j; number = second-decides _ _ (f .number) ∙ fitting (added g row) room (rw (added-joins g row j) (a .in-room)) }
 
-    -- in a full table a row that begins a seed has no entry
-    pub no-room : (row / 4096 ≡ g .first / 4096 → ⊥) → room ≤ g .entries → rowNumber g room row ≡ 11
-    unfolding rowNumber joins late
-    no-room w full =
-        let j : joins g row ≡ false = pick-false _ _ (ne-eqb (g .rows) 0 some-rows) ∙ ne-eqb _ _ w in
-        second-decides _ _ (f .number) ∙ pick-true _ _ (lt-ltb room (added g row .entries) (rw (added-begins g row j) (omega arith)))
+    -- in another window a row begins a seed
+    pub elsewhere : (row / 4096 ≡ g .first / 4096 → ⊥) → Begins
+    unfolding joins
+    elsewhere w = (f .number, pick-false _ _ (ne-eqb (g .rows) 0 some-rows) ∙ ne-eqb _ _ w)
 
-  -- its entry stands in the table, and its total fits one
-  pub goes-on-fits : GoesOn g room row → (1 ≤ g .entries) × (g .entries ≤ room) × (g .rows + 1 ≤ 65535)
+  -- and so does the first one
+  pub first-row : g .rows ≡ 0 → g .entries ≡ 0 → Begins
+  unfolding joins above
+  first-row z e =
+      let some : (g .rows ≡ 0 → ⊥) → 1 ≤ g .entries = λ n. absurd (n z) in
+      let a : Able g room = record { in-room = omega arith; in-rows = omega arith; some = some; ordered = λ n. absurd (n z) } in
+      let empty = eq-eqb (g .rows) 0 z in
+      (passing g room (above g row) 1 (record { able = a; rises = pick-true _ _ empty; counted = record { few = omega arith; in-rows = omega arith; some = some } }), pick-true _ _ empty)
+
+  -- where there is room for it, and where there is none
+  pub begins : Begins → g .entries < room → Goes false g room row
+  unfolding rowNumber
+  begins b free = record { in-seed = b .1; number = second-decides _ _ (b .0) ∙ fitting (added g row) room (omega (arith, after g row .high)) }
+
+  pub no-room : Begins → room ≤ g .entries → rowNumber g room row ≡ 11
+  unfolding rowNumber late
+  no-room b full = second-decides _ _ (b .0) ∙ pick-true _ _ (lt-ltb room (added g row .entries) (rw (added-begins g row (b .1)) (omega arith)))
+
+  -- behind rows, what does not follow is refused by one of the first tests
+  pub not-following : (g .rows ≡ 0 → ⊥) → (Follows g room row → ⊥) → early g room (above g row) 1 ≡ 0 → ⊥
+  not-following n f e = f (record { some = passed g room (above g row) 1 e .able .some n; number = e })
+
+  -- entries without rows are impossible
+  pub unmatched : g .rows ≡ 0 → (g .entries ≡ 0 → ⊥) → rowNumber g room row ≡ 12
+  unfolding rowNumber early
+  unmatched z n =
+      let t : impossible g room ≡ true = ⊎-elim (λ t. t) (λ f. absurd (n (omega (arith, possible g room f .in-rows)))) (either (impossible g room)) in
+      let e : early g room (above g row) 1 ≡ 12 = pick-true _ _ t in
+      first-refuses _ _ (λ y. omega arith) ∙ e
+
+  -- the entry of one that goes on stands in the table, and its total fits one
+  pub goes-on-fits : Goes true g room row → (1 ≤ g .entries) × (g .entries ≤ room) × (g .rows + 1 ≤ 65535)
   goes-on-fits o =
       let a = row-admitted g room row (o .number) in
       (a .0 .some (joins-some g row (o .in-seed)), rw (added-joins g row (o .in-seed)) at (a .1), a .0 .few)
+
+  -- and of one that begins a seed
+  pub begins-fits : Goes false g room row → (g .entries + 1 ≤ room) × (g .rows + 1 ≤ 65535)
+  begins-fits o =
+      let a = row-admitted g room row (o .number) in
+      (rw (added-begins g row (o .in-seed)) at (a .1), a .0 .few)

@@ -88,7 +88,7 @@ module _ (p : Third) {M : Type 1} (𝓤 : URA M) (H : Heap 𝓤) (A : Atoms 𝓤
         use1 W (later (some (λ (δ : GName). ‵ (Borrowed l₄ ν δ) ⊛ ‵ (flent (ν ∷ []) (Body (mem T.the-row) l₄ 0 δ))))) (lends-ref 𝓤 H A W T.the-row (named 0) (ν ∷ []) h l₄ 0) $ await ! tt $ pick ! (λ δ. split ! $
         move ! (0 ∷ 3 ∷ []) $ fjoin ! $ move ! (2 ∷ 22 ∷ []) $ join ! $ use2 W (raw (onEntry 𝓤 H A (adding p .signature) (ν ∷ [], κs) (fullShare, qs) (to-add l₄ ν δ .0 .3) (to-add l₄ ν δ .0 .4))) (id⊢ 𝓤 _) $
         calls-met ! fm (adding p) (adding-clauses p 𝓤) known (to-add l₄ ν δ) (id⊢ 𝓤 _) (and-then ! (load ! (from ! (stop !)) (look ! 8 refl)) (and-then ! (load ! (from ! (stop !)) (look ! 4 refl)) (and-then ! (load ! (from ! (stop !)) (look ! 13 refl)) (no-more !)))) (λ w r zs.
-        move ! (3 ∷ []) $ hears ! want r (zs .0) (zs .1 .0) (λ e. move ! (2 ∷ []) $ fsplit ! $ move ! (1 ∷ []) $ fsplit ! $ fsplit ! $ move ! (1 ∷ []) $ feqL ! (λ l.
+        move ! (3 ∷ []) $ hears ! (λ e. move ! (2 ∷ []) $ fsplit ! $ move ! (1 ∷ []) $ fsplit ! $ fsplit ! $ move ! (1 ∷ []) $ feqL ! (λ l.
         -- [the table's last list; …; the record's last value; the answer; the tokens; the lender's part; …]
         move ! (3 ∷ 3 ∷ []) $ peeks ! E.the-row (Is E.the-row) (shows 𝓤 H A E.the-row) r (w ∷ []) (λ is.
         land ! (from ! (stop !)) (init ! 14 refl (answer-typed 𝓤 H A W r _ is .0)) $ rewrite ! 14 (λ (u : Val). ‵ (fat fullShare E′.mir l₅ 0 u)) (ap only (EL.tells E.the-type E′.the-laws r _ is)) refl $

@@ -9,7 +9,7 @@ use native.Mathlib.Omega.{arith}
 use lib.ListN.{length, set}
 use borrow.Author.Tests.{ltb-true, eq-eqb, ne-eqb}
 use Rattle.model.specs.Tests.{pick}
-use Rattle.model.proofs.Tests.{either, pick-true, pick-false, both-true}
+use Rattle.model.proofs.Tests.{either, pick-true, pick-false, both-true, both-right}
 use Rattle.gather.specs.declared.Gatherer.{Gatherer}
 use Rattle.gather.specs.Gather.{answered, kept, impossible, rises, firstOf, oneSeed, addedAll, addedAllTo, seeded, paged, pagedTo, someNumber, pageNumber, pageAnswer, pageTable, Counted, Paging, GoesIn}
 use Rattle.gather.proofs.Admitted.{Able, neither, passed, passing, fits, fitting, second-decides, last-above}
@@ -47,7 +47,8 @@ module _ (g : Gatherer) (rows : List ℕ) (n : length rows ≡ 0 → ⊥) where
   unfolding someNumber
   page-admitted room e =
       let a = neither _ _ e in
-      record { counted = passed g room _ (length rows) (a .0) .counted; any = omega arith; in-room = fits (paged g rows) room (a .1) }
+      let p = passed g room _ (length rows) (a .0) in
+      record { counted = p .counted; any = omega arith; rising = both-right _ _ (p .rises); in-room = fits (paged g rows) room (a .1) }
 
 -- ---- one seed, or row by row
 
@@ -73,14 +74,11 @@ module _ (g : Gatherer) (rows : List ℕ) where
   unfolding seeded
   paged-few some = ⊎-elim (λ e. rw (paged-one e) (omega arith)) (λ e. rw (paged-rows e) (entries-few rows g)) (either (oneSeed rows))
 
-  -- a page that goes in as one seed behind others
-  pub goes-in : (room : ℕ) → 0 < length rows → Able g room → 1 ≤ g .entries → g .entries < room → g .rows + length rows ≤ 65535 → oneSeed rows ≡ true → rises (g .last ∷ rows) ≡ true → GoesIn g room rows
-  unfolding someNumber seeded
-  goes-in room any a some free few o r =
+  -- a page that goes in behind others, where each of its rows has room
+  pub goes-in : (room : ℕ) → 0 < length rows → Able g room → 1 ≤ g .entries → g .entries + length rows ≤ room → g .rows + length rows ≤ 65535 → rises (g .last ∷ rows) ≡ true → GoesIn g room rows
+  unfolding someNumber
+  goes-in room any a some free few r =
       let up = last-above g (firstOf rows) (λ z. omega (arith, a .in-rows)) (ltb-true _ _ (rises-first (g .last) rows any r)) in
       let k : Counted g (length rows) = record { few = few; in-rows = a .in-rows; some = a .some } in
-      record {
-        any = any;
-        one = o;
-        number = second-decides _ _ (passing g room _ (length rows) (record { able = a; rises = both-true _ _ up (rises-rest (g .last) rows r); counted = k })) ∙ fitting (paged g rows) room (rw (paged-one o) (omega arith));
-      }
+      let p = passing g room _ (length rows) (record { able = a; rises = both-true _ _ up (rises-rest (g .last) rows r); counted = k }) in
+      record { any = any; number = second-decides _ _ p ∙ fitting (paged g rows) room (omega (arith, paged-few any)) }

@@ -1,22 +1,23 @@
 -- The by-value answer taken apart gives the answer and the record that document 01 asks for.
 -- Assumes nothing.
 use mathlib.Core.Path.{_≡_, refl, sym, ap}
+use mathlib.Core.Bool.{true, false}
 use mathlib.Core.List.{List}
 use Prim.Native.Nat.{ℕ, zero, suc}
 use native.Mathlib.Omega.{arith}
 use lib.ListN.{length}
 use borrow.Author.Tests.{ne-eqb}
 use Rattle.model.specs.Answers.{Answer}
-use Rattle.model.proofs.Tests.{pick-false}
+use Rattle.model.proofs.Tests.{never, pick-false}
 use Rattle.model.proofs.Answers.{same-number, same-size}
 use Rattle.gather.specs.declared.Gatherer.{Gatherer}
 use Rattle.gather.specs.declared.Gathered.{Gathered}
 use Rattle.gather.specs.declared.Gathered.the-variants.{Record, Refused}
 use Rattle.gather.specs.declared.lent.Added.the-variants.{Done}
 use Rattle.gather.specs.declared.lent.Added.the-variants as variants
-use Rattle.gather.specs.Gather.{answerOf, answered, kept, added, addedTo, rowNumber, rowAnswer, rowTable, paged, pagedTo, pageAnswer, pageTable, GoesIn}
-use Rattle.gather.specs.Records.{addedAnswer, rowRecord, pageRecord, stepOf}
-use Rattle.gather.proofs.Admitted.{answered-no, kept-new, kept-old}
+use Rattle.gather.specs.Gather.{answerOf, answered, kept, added, addedTo, rowNumber, rowAnswer, rowTable, paged, pagedTo, pageAnswer, pageTable, Goes, GoesIn}
+use Rattle.gather.specs.Records.{addedAnswer, rowRecord, pageRecord, stepOf, Joined}
+use Rattle.gather.proofs.Admitted.{answered-no, kept-new, kept-old, added-joins}
 use Rattle.gather.proofs.Pages.{some-number, some-answer, some-table}
 use Rattle.gather.proofs.Answers.{ofValues}
 
@@ -33,6 +34,16 @@ taken-record old new zero (Record g) e = ap (λ (x : Answer). ofValues (x .value
 taken-record old new (suc n) (Record g) e = absurd (omega (arith, same-number e))
 taken-record old new zero (Refused k) e = absurd (omega (arith, same-size e))
 taken-record old new (suc n) (Refused k) e = refl
+
+-- ---- what a change says of having joined the last seed
+
+-- nothing, where it does not say that it has
+pub apart : {φ χ ψ J : Type 0} → φ × (χ × ψ) → φ × ((χ × (false ≡ true → J)) × ψ)
+apart w = (w .0, ((w .1 .0, λ t. never t refl), w .1 .1))
+
+-- where the row goes on in it, that no other parts of the record are new
+pub together : (g : Gatherer) (room row : ℕ) → Goes true g room row → (after : Gatherer) → after ≡ added g row → Joined g (record { answer = Done; after = after; joined = true })
+together g room row o after e = record { done = refl; kept = rw (e, added-joins g row (o .in-seed)) }
 
 -- ---- where no test refuses
 

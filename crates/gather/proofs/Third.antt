@@ -1,6 +1,7 @@
 -- What the calls by reference are passed third, a row or a page of rows: what their proofs need to know of it, and over it the calls' contracts and what their MIR shares.
 -- Assumes nothing.
 use mathlib.Core.Path.{_≡_}
+use mathlib.Core.Bool.{true}
 use Prim.Native.Nat.{ℕ, suc}
 use mathlib.Core.List.{[], _∷_, List}
 use lib.Dec.{T as Yes}
@@ -28,11 +29,12 @@ use denote.Triple.Statement.{Contract}
 use denote.Triple.Clauses.{Ended, Clauses, closing}
 use Rattle.model.specs.Answers.{Answer}
 use Rattle.gather.specs.declared.Gatherer.{Gatherer}
-use Rattle.gather.specs.Records.{addedAnswer}
+use Rattle.gather.specs.Records.{addedAnswer, Joined}
 use Rattle.gather.proofs.Promised.{Wanted, of-row, of-page}
-use Rattle.gather.proofs.Walk.{Three, Promises}
+use Rattle.gather.proofs.Walk.{Three}
 use Rattle.gather.proofs.Gatherer as T
 use Rattle.gather.proofs.lent.Added as E
+use Rattle.gather.proofs.lent.Change as Ch
 use Rattle.gather.proofs.lent.Step as S
 
 pub record Third : Type 2 where
@@ -127,42 +129,74 @@ module _ (p : Third) where
     abbrev pub Adding : Heap 𝓤 → Atoms 𝓤 → Contract 𝓤
     Adding = Lent E.the-row 𝓤 (λ r g a. addedAnswer r g ≡ a)
 
-  -- ---- a call on a record by value and a lent table, which answers a step
+  -- ---- a call on a record by value and a lent table that answers an R, and says φ of it and the answer that is wanted, χ of it, the record that was passed and the one that is wanted
+  module _ (R : RattleType) where
+    abbrev pub valued : Ended
+    valued = record {
+      signature = record {
+        lifetimes = suc (p .more);
+        outlives = [];
+        params = plain (λ _. T.the-row) ∷ mutSliceOf (0 ∷ []) tt (plain (λ _. u16)) ∷ plain (λ κs. type-at 1 (κs .1)) ∷ [];
+        result = plain (λ _. R);
+      };
+      kept = (yes, (yes, (yes, tt)));
+    }
+
+    module _ {M : Type 1} (𝓤 : URA M) (φ : R .Denot → Answer → Type 0) (χ : R .Denot → Gatherer → Gatherer → Type 0) where
+      abbrev pub valued-clauses : Clauses 𝓤 valued
+      valued-clauses κs a = let w : Wanted = p .want (a .0) (now (a .1 .0)) (a .1 .1 .0) in record {
+        ghost = Unit {0};
+        requires = λ _. emp 𝓤;
+        ensures = λ _ r e. Three 𝓤 (φ r (w .0)) (χ r (a .0) (w .1 .0)) (now (e .1 .0) ≡ w .1 .1);
+      }
+
+      abbrev pub Valued : Heap 𝓤 → Atoms 𝓤 → Contract 𝓤
+      Valued H A = tripleOf 𝓤 H A (valued .signature) (closing 𝓤 H A valued valued-clauses)
+
+  -- ---- that answers a step
   abbrev pub by-value : Ended
-  by-value = record {
-    signature = record {
-      lifetimes = suc (p .more);
-      outlives = [];
-      params = plain (λ _. T.the-row) ∷ mutSliceOf (0 ∷ []) tt (plain (λ _. u16)) ∷ plain (λ κs. type-at 1 (κs .1)) ∷ [];
-      result = plain (λ _. S.the-row);
-    };
-    kept = (yes, (yes, (yes, tt)));
-  }
+  by-value = valued S.the-row
 
   module _ {M : Type 1} (𝓤 : URA M) where
     abbrev pub by-value-clauses : Clauses 𝓤 by-value
-    by-value-clauses κs a = let w : Wanted = p .want (a .0) (now (a .1 .0)) (a .1 .1 .0) in record {
-      ghost = Unit {0};
-      requires = λ _. emp 𝓤;
-      ensures = λ _ r e. Promises 𝓤 w (r .answer) (r .after) (now (e .1 .0));
-    }
+    by-value-clauses = valued-clauses S.the-row 𝓤 (λ r a. addedAnswer (r .answer) (r .after) ≡ a) (λ r g h. r .after ≡ h)
 
     abbrev pub ByValue : Heap 𝓤 → Atoms 𝓤 → Contract 𝓤
-    ByValue H A = tripleOf 𝓤 H A (by-value .signature) (closing 𝓤 H A by-value by-value-clauses)
+    ByValue = Valued S.the-row 𝓤 (λ r a. addedAnswer (r .answer) (r .after) ≡ a) (λ r g h. r .after ≡ h)
+
+  -- ---- that answers a change
+  abbrev pub changing : Ended
+  changing = valued Ch.the-row
+
+  module _ {M : Type 1} (𝓤 : URA M) where
+    abbrev pub changing-clauses : Clauses 𝓤 changing
+    changing-clauses = valued-clauses Ch.the-row 𝓤 (λ r a. addedAnswer (r .answer) (r .after) ≡ a) (λ r g h. (r .after ≡ h) × (r .joined ≡ true → Joined g r))
+
+    abbrev pub Changing : Heap 𝓤 → Atoms 𝓤 → Contract 𝓤
+    Changing = Valued Ch.the-row 𝓤 (λ r a. addedAnswer (r .answer) (r .after) ≡ a) (λ r g h. (r .after ≡ h) × (r .joined ≡ true → Joined g r))
 
 -- ---- what the calls' MIR shares
 abbrev pub held : Ty → Local
 held τ = local τ valueLocal
 
+abbrev pub record-ty : Lifetime → Ty
+record-ty ℓ = tyRef ℓ mut (pointee (T.the-row .written))
+
 abbrev pub record-ref : Lifetime → Local
-record-ref ℓ = held (tyRef ℓ mut (pointee (T.the-row .written)))
+record-ref ℓ = held (record-ty ℓ)
+
+abbrev pub table-ty : Lifetime → Ty
+table-ty ℓ = sliceTy (tyRef ℓ mut (tyInt w16))
 
 abbrev pub table-ref : Lifetime → Local
-table-ref ℓ = held (sliceTy (tyRef ℓ mut (tyInt w16)))
+table-ref ℓ = held (table-ty ℓ)
 
 -- the pointer of a slice that is made anew
+abbrev pub ptr-ty : Ty
+ptr-ty = tyRef erased mut (tyInt w16)
+
 abbrev pub table-ptr : Local
-table-ptr = held (tyRef erased mut (tyInt w16))
+table-ptr = held ptr-ty
 
 -- the slice of the table, the second parameter, is made anew in the local k, by a pointer in the local j
 abbrev pub anew : ℕ → ℕ → Body → Body

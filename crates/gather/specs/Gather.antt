@@ -11,6 +11,8 @@ use Rattle.model.specs.Answers.{Answer, accepted, refused}
 use Rattle.gather.specs.declared.Gatherer.{Gatherer}
 use Rattle.gather.specs.declared.Gathered.{Gathered}
 use Rattle.gather.specs.declared.Gathered.the-variants.{Record, Refused}
+use Rattle.gather.specs.declared.quick.Way.{Way}
+use Rattle.gather.specs.declared.quick.Way.the-variants as way
 
 -- ---- answers
 
@@ -145,10 +147,11 @@ pub record Counted (g : Gatherer) (n : ℕ) : Type 0 where
   pub in-rows : g .entries ≤ g .rows
   pub some : (g .rows ≡ 0 → ⊥) → 1 ≤ g .entries
 
--- and room for a page that is not empty
+-- and room for a page that is not empty, and whose rows rise
 pub record Paging (g : Gatherer) (room : ℕ) (rows : List ℕ) : Type 0 where
   pub counted : Counted g (length rows)
   pub any : 0 < length rows
+  pub rising : rises rows ≡ true
   pub in-room : paged g rows .entries ≤ room
 
 -- ---- what the quick tests find
@@ -158,13 +161,18 @@ pub record Follows (g : Gatherer) (room row : ℕ) : Type 0 where
   pub some : 1 ≤ g .entries
   pub number : early g room (above g row) 1 ≡ 0
 
--- a row that goes on in the last seed, and that no test refuses
-pub record GoesOn (g : Gatherer) (room row : ℕ) : Type 0 where
-  pub in-seed : joins g row ≡ true
+-- a row that no test refuses, and that goes on in the last seed, or not
+pub record Goes (on : Bool) (g : Gatherer) (room row : ℕ) : Type 0 where
+  pub in-seed : joins g row ≡ on
   pub number : rowNumber g room row ≡ 0
 
--- a page that goes in as one seed, and that no test refuses
+-- what a way says of a row
+unfoldable pub Leads : Way → Gatherer → ℕ → ℕ → Type 0
+Leads way.On g room row = Goes true g room row
+Leads way.Anew g room row = Goes false g room row
+Leads (way.Refused k) g room row = (rowNumber g room row ≡ k) × (k ≡ 0 → ⊥)
+
+-- a page that is not empty, and that no test refuses
 pub record GoesIn (g : Gatherer) (room : ℕ) (rows : List ℕ) : Type 0 where
   pub any : 0 < length rows
-  pub one : oneSeed rows ≡ true
   pub number : someNumber g room rows ≡ 0

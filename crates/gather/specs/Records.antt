@@ -1,5 +1,6 @@
 -- The gatherer as one record that is lent to be changed: what a call answers, and the record that it leaves.
 -- Assumes nothing.
+use mathlib.Core.Path.{_≡_}
 use Prim.Native.Nat.{ℕ}
 use mathlib.Core.List.{List}
 use lib.Dec.{eqb}
@@ -11,6 +12,7 @@ use Rattle.gather.specs.declared.Gathered.{Gathered}
 use Rattle.gather.specs.declared.Gathered.the-variants as core
 use Rattle.gather.specs.declared.lent.Added.{Added}
 use Rattle.gather.specs.declared.lent.Added.the-variants.{Done, Refused}
+use Rattle.gather.specs.declared.lent.Change.{Change}
 use Rattle.gather.specs.declared.lent.Step.{Step}
 use Rattle.gather.specs.Gather.{valuesOf, kept, rowNumber, added, pageNumber, paged}
 
@@ -31,3 +33,12 @@ pageRecord g room rows = kept (pageNumber g room rows) g (pick (eqb (length rows
 unfoldable pub stepOf : Gatherer → Gathered → Step
 stepOf old (core.Record g) = record { answer = Done; after = g }
 stepOf old (core.Refused k) = record { answer = Refused k; after = old }
+
+-- the old record with the row total and the last row of the new one
+abbrev pub wentOn : Gatherer → Gatherer → Gatherer
+wentOn old new = record { entries = old .entries; rows = new .rows; first = old .first; last = new .last }
+
+-- a change that is done, and leaves no more new than these two
+pub record Joined (old : Gatherer) (c : Change) : Type 0 where
+  pub done : c .answer ≡ Done
+  pub kept : wentOn old (c .after) ≡ c .after

@@ -1,19 +1,19 @@
 // The gatherer as one record that is lent to be changed: thin calls over the by-value core.
 ghost use mathlib.Core.Path.{_≡_};
+ghost use mathlib.Core.Bool.{true};
 ghost use lib.ListN.{length};
 ghost use Rattle.gather.specs.Gather.{rowAnswer, rowTable, pageAnswer, pageTable};
-ghost use Rattle.gather.specs.Records.{addedAnswer, rowRecord, pageRecord, stepOf};
+ghost use Rattle.gather.specs.Records.{addedAnswer, rowRecord, pageRecord, stepOf, Joined};
 use crate::Gathered;
 use crate::Gatherer;
-use crate::above;
-use crate::early;
 use crate::gather_page;
 use crate::gather_row;
-use crate::paging::put_seed;
-use crate::put_row;
-use crate::quick::follows;
+use crate::paging::put_page;
+use crate::quick::Way;
 use crate::quick::goes_in;
+use crate::quick::put_anew;
 use crate::quick::put_on;
+use crate::quick::row_way;
 
 // Done, and the lent record is the new one; or the refusal's number, and it is the old one.
 pub enum Added {
@@ -25,6 +25,14 @@ pub enum Added {
 pub struct Step {
     pub answer: Added,
     pub after: Gatherer,
+}
+
+// A step, and whether it is seen that a row has joined the last seed. The record's entries and first row are then the old ones, so
+// that they need no store, and the compiled code has an end of its own for such rows. Of a page it is never said.
+pub(crate) struct Change {
+    answer: Added,
+    after: Gatherer,
+    joined: bool,
 }
 
 // The by-value answer, over the old record. The new record is written over the old one: with an answer built in each arm, the
@@ -67,7 +75,7 @@ pub fn tested_page(g: Gatherer, table: &mut [u16], rows: &[u64]) -> Step
 }
 
 // The same record again. What is passed on to a call lies in memory; a copy that is made only there leaves the record itself in
-// registers.
+// registers. (`&*rows` below does the same for a slice.)
 fn copied(g: Gatherer) -> Gatherer
     ensures { λ r. ⌜ r ≡ g ⌝ }
 {
@@ -80,53 +88,52 @@ fn copied(g: Gatherer) -> Gatherer
 }
 
 // What `tested_row` does, with few tests for the rows that most rows are: those that go on in the last seed, and those that
-// begin another where there is room. Behind a record with rows, none but these is accepted.
-fn row_step(g: Gatherer, table: &mut [u16], row: u64) -> Step
+// begin another where there is room.
+fn row_step(g: Gatherer, table: &mut [u16], row: u64) -> Change
     ensures { λ r. ⌜ addedAnswer (r .answer) (r .after) ≡ rowAnswer g (length (now (table .entry))) row ⌝ }
-    ensures { λ r. ⌜ r .after ≡ rowRecord g (length (now (table .entry))) row ⌝ }
+    ensures { λ r. ⌜ (r .after ≡ rowRecord g (length (now (table .entry))) row) × (r .joined ≡ true → Joined g r) ⌝ }
     ensures { λ _. ⌜ now (table .exit) ≡ rowTable g (now (table .entry)) row ⌝ }
 {
-    let mut answer = Added::Done;
-    let mut after = g;
-    if follows(g, table.len(), row) {
-        if row / 4096 == g.first / 4096 {
-            after = put_on(g, table, row);
-        } else if g.entries < table.len() {
-            after = put_row(g, table, row);
-        } else {
-            answer = Added::Refused(11);
-        }
-    } else if g.entries == 0 {
-        let s = tested_row(g, table, row);
-        answer = s.answer;
-        after = s.after;
-    } else {
-        answer = Added::Refused(early(g, table.len(), above(g, row), 1));
-    }
-    Step {
-        answer: answer,
-        after: after,
+    match row_way(g, table.len(), row) {
+        Way::On => Change {
+            answer: Added::Done,
+            after: put_on(g, table, row),
+            joined: true,
+        },
+        Way::Anew => Change {
+            answer: Added::Done,
+            after: put_anew(g, table, row),
+            joined: false,
+        },
+        Way::Refused(number) => Change {
+            answer: Added::Refused(number),
+            after: g,
+            joined: false,
+        },
     }
 }
 
-// What `tested_page` does, with few tests for a page that goes in as one seed.
-fn page_step(g: Gatherer, table: &mut [u16], rows: &[u64]) -> Step
+// What `tested_page` does, with few tests for a page behind others, where there is an entry for each of its rows.
+fn page_step(g: Gatherer, table: &mut [u16], rows: &[u64]) -> Change
     ensures { λ r. ⌜ addedAnswer (r .answer) (r .after) ≡ pageAnswer g (length (now (table .entry))) (now (rows .entry)) ⌝ }
-    ensures { λ r. ⌜ r .after ≡ pageRecord g (length (now (table .entry))) (now (rows .entry)) ⌝ }
+    ensures { λ r. ⌜ (r .after ≡ pageRecord g (length (now (table .entry))) (now (rows .entry))) × (r .joined ≡ true → Joined g r) ⌝ }
     ensures { λ _. ⌜ now (table .exit) ≡ pageTable g (now (table .entry)) (now (rows .entry)) ⌝ }
 {
-    let mut answer = Added::Done;
-    let mut after = g;
     if goes_in(g, table.len(), rows) {
-        after = put_seed(g, table, rows);
+        Change {
+            answer: Added::Done,
+            after: put_page(g, table, rows),
+            joined: false,
+        }
     } else {
-        let s = tested_page(copied(g), table, rows);
-        answer = s.answer;
-        after = s.after;
-    }
-    Step {
-        answer: answer,
-        after: after,
+        let s = tested_page(copied(g), table, &*rows);
+        let answer = s.answer;
+        let after = s.after;
+        Change {
+            answer: answer,
+            after: after,
+            joined: false,
+        }
     }
 }
 
@@ -136,9 +143,15 @@ pub fn add_row(g: &mut Gatherer, table: &mut [u16], row: u64) -> Added
     ensures { λ _. ⌜ now (g .exit) ≡ rowRecord (now (g .entry)) (length (now (table .entry))) row ⌝ }
     ensures { λ _. ⌜ now (table .exit) ≡ rowTable (now (g .entry)) (now (table .entry)) row ⌝ }
 {
-    let s = row_step(*g, table, row);
-    *g = s.after;
-    s.answer
+    let c = row_step(*g, table, row);
+    if c.joined {
+        g.rows = c.after.rows;
+        g.last = c.after.last;
+        Added::Done
+    } else {
+        *g = c.after;
+        c.answer
+    }
 }
 
 // A page, into the lent record and the lent table; or a refusal, and both as they were.
@@ -147,9 +160,15 @@ pub fn add_page(g: &mut Gatherer, table: &mut [u16], rows: &[u64]) -> Added
     ensures { λ _. ⌜ now (g .exit) ≡ pageRecord (now (g .entry)) (length (now (table .entry))) (now (rows .entry)) ⌝ }
     ensures { λ _. ⌜ now (table .exit) ≡ pageTable (now (g .entry)) (now (table .entry)) (now (rows .entry)) ⌝ }
 {
-    let s = page_step(*g, table, rows);
-    *g = s.after;
-    s.answer
+    let c = page_step(*g, table, rows);
+    if c.joined {
+        g.rows = c.after.rows;
+        g.last = c.after.last;
+        Added::Done
+    } else {
+        *g = c.after;
+        c.answer
+    }
 }
 
 // `add_row` on a local record: whoever calls this needs no proof by hand.

@@ -3,7 +3,7 @@ ghost use mathlib.Core.Path.{_≡_};
 ghost use mathlib.Core.Bool.{true};
 ghost use Prim.Native.Nat.{_<_, _≤_};
 ghost use lib.ListN.{length};
-ghost use Rattle.gather.specs.Gather.{oneSeed, addedAll, addedAllTo, seeded, paged, pagedTo, someNumber, Counted, Paging};
+ghost use Rattle.gather.specs.Gather.{rises, oneSeed, addedAll, addedAllTo, seeded, paged, pagedTo, someNumber, Counted, Paging};
 use crate::Gatherer;
 use crate::above;
 use crate::added;
@@ -14,17 +14,12 @@ use crate::put_row;
 use crate::rises;
 use crate::too_many;
 
-// Whether a page that is not empty is one seed.
+// Whether a page that is not empty, and whose rows rise, is one seed.
 fn one_seed(rows: &[u64]) -> bool
-    requires { ⌜ 0 < length (now rows) ⌝ }
+    requires { ⌜ (0 < length (now rows)) × (rises (now rows) ≡ true) ⌝ }
     ensures { λ r. ⌜ r ≡ oneSeed (now (rows .entry)) ⌝ }
 {
-    let first = rows[0];
-    let last = rows[rows.len() - 1];
-    if last <= first {
-        return true;
-    }
-    last - first < 65535
+    rows[rows.len() - 1] - rows[0] < 65535
 }
 
 // The record with rows in, each added singly.
@@ -69,9 +64,9 @@ fn seeded(g: Gatherer, rows: &[u64]) -> Gatherer
     }
 }
 
-// The record with a page in that is not empty.
+// The record with a page in that is not empty, and whose rows rise.
 fn paged(g: Gatherer, rows: &[u64]) -> Gatherer
-    requires { ⌜ Counted g (length (now rows)) × (0 < length (now rows)) ⌝ }
+    requires { ⌜ Counted g (length (now rows)) × (0 < length (now rows)) × (rises (now rows) ≡ true) ⌝ }
     ensures { λ r. ⌜ r ≡ paged g (now (rows .entry)) ⌝ }
 {
     if one_seed(rows) {

@@ -81,7 +81,7 @@ module _ (p : Third) {M : Type 1} (𝓤 : URA M) (H : Heap 𝓤) (A : Atoms 𝓤
         -- the first call: all that was passed goes with its tokens
         move ! (16 ∷ []) $
         calls-met ! (fmOf 𝓤 H (W .laws) 𝓣) (adding p) (adding-clauses p 𝓤) known-add bound (id⊢ 𝓤 _) (and-then ! (load ! (from ! (stop !)) (look ! 5 refl)) (and-then ! (load ! (from ! (stop !)) (look ! 1 refl)) (and-then ! (load ! (from ! (stop !)) (look ! 9 refl)) (no-more !)))) (λ v r zs.
-        move ! (3 ∷ []) $ hears ! want r (zs .0) (zs .1 .0) (λ e. move ! (2 ∷ []) $ fsplit ! $ move ! (1 ∷ []) $ fsplit ! $ fsplit ! $ move ! (1 ∷ []) $ feqL ! (λ l.
+        move ! (3 ∷ []) $ hears ! (λ e. move ! (2 ∷ []) $ fsplit ! $ move ! (1 ∷ []) $ fsplit ! $ fsplit ! $ move ! (1 ∷ []) $ feqL ! (λ l.
         -- [the table's last list; …; the record's last value; the answer; the tokens; _7; …]
         move ! (3 ∷ []) $ peeks ! E.the-row (Is E.the-row) (shows 𝓤 H A E.the-row) r (v ∷ []) (λ is-r.
         land ! (from ! (stop !)) (init ! 11 refl (answer-typed 𝓤 H A W r _ is-r .0)) $

@@ -1,11 +1,9 @@
 -- `gather::one_seed` meets its contract.
 -- Assumes nothing.
-use mathlib.Core.Path.{refl, sym}
-use Prim.Native.Nat.{_-_}
-use native.Mathlib.Omega.{arith}
+use mathlib.Core.Path.{refl}
 use borrow.Author.Needs.{needs}
-use borrow.Author.Tests.{lt-ltb}
-use Rattle.gather.specs.Gather.{oneSeed, firstOf, lastOf}
+use Rattle.gather.specs.Gather.{oneSeed}
+use Rattle.gather.proofs.Climbing.{rises-ends}
 use Rattle.gather.proofs.paging.one_seed.Statement.{statement}
 use Rattle.gather.proofs.paging.one_seed.Tie as tie
 
@@ -18,6 +16,5 @@ one-seed-spec =
     (λ c. search needs)
     (λ c. search needs)
     (λ c. search needs)
-    (λ c. let rows = c .before .before .before .args .rows .now in sym (lt-ltb (lastOf rows - firstOf rows) 65535 (omega arith)))
-    (λ c. search needs)
+    (λ c. rises-ends _ (c .before .before .pre .1))
     (λ c. refl))

@@ -7,6 +7,7 @@ use borrow.Author.Needs.{needs}
 use lib.ListN.{length}
 use Rattle.model.specs.Tests.{both}
 use Rattle.model.proofs.Counted.{and-both}
+use Rattle.model.proofs.Tests.{both-right}
 use Rattle.gather.specs.Gather.{above, rises, early, firstOf, someNumber}
 use Rattle.gather.proofs.Admitted.{Passed, passed, fitting, first-refuses, second-decides}
 use Rattle.gather.proofs.Pages.{paged-few}
@@ -45,7 +46,7 @@ some-number-spec =
     let few = paged-few (s .args .g) (s .args .rows .now) (s .pre) in
     let room = go-on d .able .in-room in
     rw (← tested (d .before), second-decides _ _ (d .if1 .left)) (sym (fitting _ _ (omega arith))))
-    (λ c κs. (go-on (c .before .before) .counted, start (c .before .before .before) .pre))
+    (λ c κs. let p = go-on (c .before .before) in (p .counted, start (c .before .before .before) .pre, both-right _ _ (p .rises)))
     (λ c κs. search needs)
     (λ c.
     let d = c .before .before .before .before in
