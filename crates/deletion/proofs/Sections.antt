@@ -11,7 +11,7 @@ use borrow.Author.Tests.{eq-eqb, ne-eqb, eqb-true}
 use Rattle.model.specs.Tests.{pick}
 use Rattle.model.specs.Answers.{accepted, refused}
 use Rattle.model.proofs.Tests.{pick-true, pick-false, both-true, both-left, both-right}
-use Rattle.gather.proofs.Admitted.{passes}
+use Rattle.gather_core.proofs.Admitted.{passes}
 use Rattle.bodies.specs.Bodies.{accepts, names}
 use Rattle.planning.specs.Planning.{answered}
 use Rattle.planning.proofs.Accepted.{answered-none, answered-some}

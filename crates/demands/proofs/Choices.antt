@@ -13,7 +13,7 @@ use Rattle.model.specs.Lists.{has}
 use Rattle.model.specs.Answers.{Answer, over}
 use Rattle.model.proofs.Tests.{pick-true, pick-false}
 use Rattle.model.proofs.Writing.{over-drop}
-use Rattle.gather.specs.Gather.{orElse}
+use Rattle.gather_core.specs.Gather.{orElse}
 use Rattle.demands.specs.Demands.{firstDue, numbersOf}
 
 -- two choices by one test are made the same way

@@ -17,7 +17,7 @@ use Rattle.rowset.proofs.select.Reads as select
 use Rattle.rowset.proofs.segment.Reads as segment
 use Rattle.rowset.proofs.ranks.Reads as ranks
 use Rattle.rowset.proofs.walk.Reads as walk
-use Rattle.gather.specs.declared.Gatherer.{Gatherer}
+use Rattle.gather_core.specs.declared.Gatherer.{Gatherer}
 use Rattle.gather.specs.declared.Gathered.{Gathered}
 use Rattle.gather.proofs.gather_row.Reads as gather-row
 use Rattle.gather.proofs.gather_page.Reads as gather-page

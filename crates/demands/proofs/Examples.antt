@@ -30,10 +30,10 @@ use Rattle.rowset.specs.Calls.{asked, validateOf}
 use Rattle.cost.specs.Sizes.{binary, depthOf}
 use Rattle.cost.specs.Statistics.{statsOf, joined}
 use Rattle.cost.specs.Forms.{itemsForm, bitmapForm, denseForm, orderOf, lex, keyOf, lesser, least, localOffers, localForm, runsForm, plainOffers, trimmedOffers, wholeForm, payload}
-use Rattle.gather.specs.declared.Gatherer.{Gatherer}
-use Rattle.gather.specs.Gather.{upAt, rises, impossible, above, early, late, orElse, oneSeed, joins, added, addedTo, addedAll, addedAllTo, seeded, paged, pagedTo, someNumber, pageNumber, pageAnswer, pageTable, kept}
-use Rattle.gather.specs.Gather as gather-specs
-use Rattle.gather.specs.Seeds.{startOf, seedAt, seedsFit, sameAt, cuts, windows}
+use Rattle.gather_core.specs.declared.Gatherer.{Gatherer}
+use Rattle.gather_core.specs.Gather.{upAt, rises, impossible, above, early, late, orElse, oneSeed, joins, added, addedTo, addedAll, addedAllTo, seeded, paged, pagedTo, someNumber, pageNumber, pageAnswer, pageTable, kept}
+use Rattle.gather_core.specs.Gather as gather-specs
+use Rattle.gather_core.specs.Seeds.{startOf, seedAt, seedsFit, sameAt, cuts, windows}
 use Rattle.merge.specs.Rule.{without, cutsFrom, oneIf, contains, pairs, pairsWith, better, best, afterJoins, laterOffers, merged, offers}
 use Rattle.merge.specs.Pairs.{admits, saves, rowsAdmitted, rowsSaving}
 use Rattle.planning.specs.Refusals.{coverageFits, countFits, rowsFit, givenFit, endsOf, roomFits, earlyNumber}

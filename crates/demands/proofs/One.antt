@@ -15,11 +15,11 @@ use Rattle.rowset.specs.declared.Filled.{Filled}
 use Rattle.rowset.specs.declared.Entry.{Entry}
 use Rattle.rowset.proofs.Same.{checked-same, ranked-same, selected-same, filled-same, entry-same}
 use Rattle.tables.specs.Tables.{segmentsAnswer, segmentsLeft}
-use Rattle.gather.specs.declared.Gatherer.{Gatherer}
+use Rattle.gather_core.specs.declared.Gatherer.{Gatherer}
 use Rattle.gather.specs.declared.Gathered.{Gathered}
 use Rattle.gather.specs.declared.lent.Added.{Added}
-use Rattle.gather.specs.Gather.{answerOf, rowAnswer, rowTable, pageAnswer, pageTable}
-use Rattle.gather.specs.Records.{addedAnswer, rowRecord, pageRecord}
+use Rattle.gather_core.specs.Gather.{rowAnswer, rowTable, pageAnswer, pageTable}
+use Rattle.gather.specs.Records.{answerOf, addedAnswer, rowRecord, pageRecord}
 use Rattle.gather.proofs.Answers.{answers-same}
 use Rattle.gather.proofs.Promised.{added-same}
 use Rattle.planning.specs.Planning.{planOf, planOut, planWork}

@@ -15,8 +15,8 @@ use Rattle.model.proofs.Tests.{pick-true, pick-false, both-true, both-left}
 use Rattle.bodies.specs.Bodies.{accepts, names}
 use Rattle.rowset.specs.Calls.{asked, validateOf, rankAnswer, selectAnswer, ranksAnswer, walkAnswer, segmentAnswer}
 use Rattle.tables.specs.Tables.{entriesOf, segmentsAnswer}
-use Rattle.gather.specs.declared.Gatherer.{Gatherer}
-use Rattle.gather.specs.Gather.{answered, impossible, above, rises, firstOf, early, late, orElse, added, paged, rowNumber, rowAnswer, someNumber, pageNumber, pageAnswer}
+use Rattle.gather_core.specs.declared.Gatherer.{Gatherer}
+use Rattle.gather_core.specs.Gather.{answered, impossible, above, rises, firstOf, early, late, orElse, added, paged, rowNumber, rowAnswer, someNumber, pageNumber, pageAnswer}
 use Rattle.planning.specs.Refusals.{coverageFits, countFits, rowsFit, givenFit, roomFits, earlyNumber}
 use Rattle.planning.specs.Planning.{plannedForm, lateNumber, planNumber, planOf}
 use Rattle.planning.proofs.Accepted.{answered-number, plan-number}

@@ -19,8 +19,8 @@ use Rattle.bodies.specs.Bodies.{accepts, names}
 use Rattle.rowset.specs.Calls.{asked, ranksAnswer, ranksLeft, walkAnswer, walkLeft}
 use Rattle.model.proofs.Ranking.{length-ranks}
 use Rattle.tables.specs.Tables.{entriesOf, segmentsAnswer, segmentsLeft}
-use Rattle.gather.specs.declared.Gatherer.{Gatherer}
-use Rattle.gather.specs.Gather.{answered, kept, rowAnswer, rowTable, pageAnswer, pageTable}
+use Rattle.gather_core.specs.declared.Gatherer.{Gatherer}
+use Rattle.gather_core.specs.Gather.{answered, kept, rowAnswer, rowTable, pageAnswer, pageTable}
 use Rattle.gather.specs.Records.{rowRecord, pageRecord}
 use Rattle.planning.specs.Refusals.{endsOf, earlyNumber}
 use Rattle.planning.specs.Planning.{plannedForm, plannedBody, plannedValues, lateNumber, planNumber, planOf, planOut, planWork}

@@ -8,11 +8,11 @@ use mir.Syntax.{tyBool, w8, field, int, aggregate, cond, Body as Code}
 use mir.Val.{vbool}
 use denote.Struct.Laws as LL
 use denote.Enum.Laws as EL
-use Rattle.gather.specs.declared.Gatherer.{Gatherer}
+use Rattle.gather_core.specs.declared.Gatherer.{Gatherer}
 use Rattle.gather.specs.declared.lent.Added.{Added}
 use Rattle.gather.specs.declared.lent.Change.{Change}
-use Rattle.gather.proofs.Gatherer as T
-use Rattle.gather.proofs.Gatherer.Laws as T′
+use Rattle.gather_core.proofs.Gatherer as T
+use Rattle.gather_core.proofs.Gatherer.Laws as T′
 use Rattle.gather.proofs.lent.Added as E
 use Rattle.gather.proofs.lent.Added.Laws as E′
 use Rattle.gather.proofs.lent.Change as Ch

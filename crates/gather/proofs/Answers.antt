@@ -7,10 +7,10 @@ use native.Mathlib.Omega.{arith}
 use lib.ListN.{getD}
 use Rattle.model.specs.Answers.{Answer}
 use Rattle.model.proofs.Answers.{same-number, same-size}
-use Rattle.gather.specs.declared.Gatherer.{Gatherer}
+use Rattle.gather_core.specs.declared.Gatherer.{Gatherer}
 use Rattle.gather.specs.declared.Gathered.{Gathered}
 use Rattle.gather.specs.declared.Gathered.the-variants.{Record, Refused}
-use Rattle.gather.specs.Gather.{answerOf}
+use Rattle.gather.specs.Records.{answerOf}
 
 -- a record from its values
 abbrev pub ofValues : List ℕ → Gatherer

@@ -4,9 +4,9 @@ use mathlib.Core.Path.{_≡_, refl}
 use mathlib.Core.List.{[], _∷_}
 use Rattle.model.specs.Tests.{pick, both, all}
 use Rattle.model.specs.Answers.{accepted, refused}
-use Rattle.gather.specs.declared.Gatherer.{Gatherer}
+use Rattle.gather_core.specs.declared.Gatherer.{Gatherer}
 use Rattle.gather.specs.Records.{rowRecord, pageRecord}
-use Rattle.gather.specs.Gather.{answered, kept, impossible, above, early, late, orElse, joins, added, addedTo, rowNumber, rowAnswer, rowTable, upAt, rises, oneSeed, addedAll, addedAllTo, seeded, paged, pagedTo, someNumber, pageNumber, pageAnswer, pageTable}
+use Rattle.gather_core.specs.Gather.{answered, kept, impossible, above, early, late, orElse, joins, added, addedTo, rowNumber, rowAnswer, rowTable, upAt, rises, oneSeed, addedAll, addedAllTo, seeded, paged, pagedTo, someNumber, pageNumber, pageAnswer, pageTable}
 
 nothing : Gatherer
 nothing = record { entries = 0; rows = 0; first = 0; last = 0 }

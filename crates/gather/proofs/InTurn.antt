@@ -13,13 +13,13 @@ use Rattle.model.specs.Tests.{both, all}
 use Rattle.model.specs.Answers.{Answer, accepted}
 use Rattle.model.proofs.Tests.{either, pick-false, both-true, both-left, both-right}
 use Rattle.model.proofs.Answers.{same-number}
-use Rattle.gather.specs.declared.Gatherer.{Gatherer}
-use Rattle.gather.specs.Gather.{valuesOf, answered, above, joins, added, addedTo, rowNumber, rowAnswer, rowTable, rises, firstOf, oneSeed, addedAll, addedAllTo, paged, someNumber, pageAnswer, pageTable, Counted}
-use Rattle.gather.proofs.Climbing.{rises-first, rises-rest, rises-more}
+use Rattle.gather_core.specs.declared.Gatherer.{Gatherer}
+use Rattle.gather_core.specs.Gather.{valuesOf, answered, above, joins, added, addedTo, rowNumber, rowAnswer, rowTable, rises, firstOf, oneSeed, addedAll, addedAllTo, paged, someNumber, pageAnswer, pageTable, Counted}
+use Rattle.gather_core.proofs.Climbing.{rises-first, rises-rest, rises-more}
 use Rattle.gather.proofs.Answers.{ofValues}
-use Rattle.gather.proofs.Singly.{entries-grow}
-use Rattle.gather.proofs.Pages.{some-answer, some-table, paged-rows, paged-rows-to}
-use Rattle.gather.proofs.Admitted.{Able, Passed, passed, passing, fits, fitting, neither, second-decides, answered-yes, kept-new, after, added-joins, added-begins, joins-some, added-length, above-last}
+use Rattle.gather_core.proofs.Singly.{entries-grow}
+use Rattle.gather_core.proofs.Pages.{some-answer, some-table, paged-rows, paged-rows-to}
+use Rattle.gather_core.proofs.Admitted.{Able, Passed, passed, passing, fits, fitting, neither, second-decides, answered-yes, kept-new, after, added-joins, added-begins, joins-some, added-length, above-last}
 
 -- rows accepted one by one, from a record and a table to the record and the table at the end
 pub data InTurn : Gatherer → List ℕ → List ℕ → Gatherer → List ℕ → Type 0 where

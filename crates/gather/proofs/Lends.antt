@@ -4,10 +4,10 @@ use Rattle.gather.proofs.Walk.{_≡_, refl, ap, ℕ, [], _∷_, List, l
 use mir.Syntax.{aggregate, local, memorySlot}
 use denote.Struct.Laws as LL
 use denote.Enum.Laws as EL
-use Rattle.gather.specs.declared.Gatherer.{Gatherer}
+use Rattle.gather_core.specs.declared.Gatherer.{Gatherer}
 use Rattle.gather.specs.declared.lent.Added.{Added}
-use Rattle.gather.proofs.Gatherer as T
-use Rattle.gather.proofs.Gatherer.Laws as T′
+use Rattle.gather_core.proofs.Gatherer as T
+use Rattle.gather_core.proofs.Gatherer.Laws as T′
 use Rattle.gather.proofs.lent.Added as E
 use Rattle.gather.proofs.lent.Added.Laws as E′
 use Rattle.gather.proofs.lent.Step as S

@@ -1,14 +1,6 @@
-pub mod Admitted
-pub mod Singly
-pub mod Climbing
-pub mod Steps
-pub mod Pages
 pub mod Answers
 pub mod Examples
-pub mod Seeds
-pub mod Windows
 pub mod InTurn
-pub mod Elsewhere
 pub mod Taken
 pub mod Promised
 pub mod Walk

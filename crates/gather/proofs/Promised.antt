@@ -7,10 +7,10 @@ use native.Mathlib.Omega.{arith}
 use lib.ListN.{length}
 use Rattle.model.specs.Answers.{Answer}
 use Rattle.model.proofs.Answers.{same-number, same-size}
-use Rattle.gather.specs.declared.Gatherer.{Gatherer}
+use Rattle.gather_core.specs.declared.Gatherer.{Gatherer}
 use Rattle.gather.specs.declared.lent.Added.{Added}
 use Rattle.gather.specs.declared.lent.Added.the-variants.{Done, Refused}
-use Rattle.gather.specs.Gather.{rowAnswer, rowTable, pageAnswer, pageTable}
+use Rattle.gather_core.specs.Gather.{rowAnswer, rowTable, pageAnswer, pageTable}
 use Rattle.gather.specs.Records.{addedAnswer, rowRecord, pageRecord}
 
 -- the answer, the record and the table that document 01 wants

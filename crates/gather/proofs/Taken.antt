@@ -10,15 +10,15 @@ use borrow.Author.Tests.{ne-eqb}
 use Rattle.model.specs.Answers.{Answer}
 use Rattle.model.proofs.Tests.{never, pick-false}
 use Rattle.model.proofs.Answers.{same-number, same-size}
-use Rattle.gather.specs.declared.Gatherer.{Gatherer}
+use Rattle.gather_core.specs.declared.Gatherer.{Gatherer}
 use Rattle.gather.specs.declared.Gathered.{Gathered}
 use Rattle.gather.specs.declared.Gathered.the-variants.{Record, Refused}
 use Rattle.gather.specs.declared.lent.Added.the-variants.{Done}
 use Rattle.gather.specs.declared.lent.Added.the-variants as variants
-use Rattle.gather.specs.Gather.{answerOf, answered, kept, added, addedTo, rowNumber, rowAnswer, rowTable, paged, pagedTo, pageAnswer, pageTable, Goes, GoesIn}
-use Rattle.gather.specs.Records.{addedAnswer, rowRecord, pageRecord, stepOf, Joined}
-use Rattle.gather.proofs.Admitted.{answered-no, kept-new, kept-old, added-joins}
-use Rattle.gather.proofs.Pages.{some-number, some-answer, some-table}
+use Rattle.gather_core.specs.Gather.{answered, kept, added, addedTo, rowNumber, rowAnswer, rowTable, paged, pagedTo, pageAnswer, pageTable, Goes, GoesIn}
+use Rattle.gather.specs.Records.{answerOf, addedAnswer, rowRecord, pageRecord, stepOf, Joined}
+use Rattle.gather_core.proofs.Admitted.{answered-no, kept-new, kept-old, added-joins}
+use Rattle.gather_core.proofs.Pages.{some-number, some-answer, some-table}
 use Rattle.gather.proofs.Answers.{ofValues}
 
 -- the answer is the by-value one

@@ -28,11 +28,11 @@ use denote.Triple.Spec.{tripleOf}
 use denote.Triple.Statement.{Contract}
 use denote.Triple.Clauses.{Ended, Clauses, closing}
 use Rattle.model.specs.Answers.{Answer}
-use Rattle.gather.specs.declared.Gatherer.{Gatherer}
+use Rattle.gather_core.specs.declared.Gatherer.{Gatherer}
 use Rattle.gather.specs.Records.{addedAnswer, Joined}
 use Rattle.gather.proofs.Promised.{Wanted, of-row, of-page}
 use Rattle.gather.proofs.Walk.{Three}
-use Rattle.gather.proofs.Gatherer as T
+use Rattle.gather_core.proofs.Gatherer as T
 use Rattle.gather.proofs.lent.Added as E
 use Rattle.gather.proofs.lent.Change as Ch
 use Rattle.gather.proofs.lent.Step as S

@@ -59,11 +59,11 @@ use denote.Triple.Call.{calls-from}
 use denote.Triple.Spec.{tripleOf}
 use denote.Triple.Clauses.{Ended, Clauses, Lasts, atExit, lasts, ensured, closing}
 pub use Rattle.gather.proofs.Promised.{Wanted, Said}
-use Rattle.gather.specs.declared.Gatherer.{Gatherer}
+use Rattle.gather_core.specs.declared.Gatherer.{Gatherer}
 use Rattle.gather.specs.declared.lent.Added.{Added}
 use Rattle.gather.specs.declared.lent.Step.{Step}
-use Rattle.gather.proofs.Gatherer as T
-use Rattle.gather.proofs.Gatherer.Laws as T′
+use Rattle.gather_core.proofs.Gatherer as T
+use Rattle.gather_core.proofs.Gatherer.Laws as T′
 use Rattle.gather.proofs.lent.Added as E
 use Rattle.gather.proofs.lent.Added.Laws as E′
 use Rattle.gather.proofs.lent.Step as S

@@ -1,22 +1,30 @@
--- The gatherer as one record that is lent to be changed: what a call answers, and the record that it leaves.
+-- What the calls answer by value, and with the record lent to be changed: the answer, and the record that is left. And what the quick tests say of a row.
 -- Assumes nothing.
 use mathlib.Core.Path.{_≡_}
+use mathlib.Core.Bool.{true, false}
 use Prim.Native.Nat.{ℕ}
 use mathlib.Core.List.{List}
 use lib.Dec.{eqb}
 use lib.ListN.{length}
 use Rattle.model.specs.Tests.{pick}
 use Rattle.model.specs.Answers.{Answer, accepted, refused}
-use Rattle.gather.specs.declared.Gatherer.{Gatherer}
+use Rattle.gather_core.specs.declared.Gatherer.{Gatherer}
 use Rattle.gather.specs.declared.Gathered.{Gathered}
 use Rattle.gather.specs.declared.Gathered.the-variants as core
+use Rattle.gather.specs.declared.quick.Way.{Way}
+use Rattle.gather.specs.declared.quick.Way.the-variants as way
 use Rattle.gather.specs.declared.lent.Added.{Added}
 use Rattle.gather.specs.declared.lent.Added.the-variants.{Done, Refused}
 use Rattle.gather.specs.declared.lent.Change.{Change}
 use Rattle.gather.specs.declared.lent.Step.{Step}
-use Rattle.gather.specs.Gather.{valuesOf, kept, rowNumber, added, pageNumber, paged}
+use Rattle.gather_core.specs.Gather.{valuesOf, kept, rowNumber, added, pageNumber, paged, Goes}
 
--- document 01's number and values of each case: where a call was done, the values are those of the record that it left
+-- document 01's number and values of a by-value result
+unfoldable pub answerOf : Gathered → Answer
+answerOf (core.Record g) = accepted (valuesOf g)
+answerOf (core.Refused k) = refused k
+
+-- and of a call on a lent record: where it was done, the values are those of the record that it left
 unfoldable pub addedAnswer : Added → Gatherer → Answer
 addedAnswer Done after = accepted (valuesOf after)
 addedAnswer (Refused k) after = refused k
@@ -42,3 +50,9 @@ wentOn old new = record { entries = old .entries; rows = new .rows; first = old 
 pub record Joined (old : Gatherer) (c : Change) : Type 0 where
   pub done : c .answer ≡ Done
   pub kept : wentOn old (c .after) ≡ c .after
+
+-- what a way says of a row
+unfoldable pub Leads : Way → Gatherer → ℕ → ℕ → Type 0
+Leads way.On g room row = Goes true g room row
+Leads way.Anew g room row = Goes false g room row
+Leads (way.Refused k) g room row = (rowNumber g room row ≡ k) × (k ≡ 0 → ⊥)

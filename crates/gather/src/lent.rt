@@ -2,18 +2,18 @@
 ghost use mathlib.Core.Path.{_≡_};
 ghost use mathlib.Core.Bool.{true};
 ghost use lib.ListN.{length};
-ghost use Rattle.gather.specs.Gather.{rowAnswer, rowTable, pageAnswer, pageTable};
+ghost use Rattle.gather_core.specs.Gather.{rowAnswer, rowTable, pageAnswer, pageTable};
 ghost use Rattle.gather.specs.Records.{addedAnswer, rowRecord, pageRecord, stepOf, Joined};
 use crate::Gathered;
-use crate::Gatherer;
 use crate::gather_page;
 use crate::gather_row;
-use crate::paging::put_page;
 use crate::quick::Way;
 use crate::quick::goes_in;
 use crate::quick::put_anew;
 use crate::quick::put_on;
 use crate::quick::row_way;
+use gather_core::Gatherer;
+use gather_core::put_page;
 
 // Done, and the lent record is the new one; or the refusal's number, and it is the old one.
 pub enum Added {

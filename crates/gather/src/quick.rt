@@ -2,13 +2,14 @@
 ghost use mathlib.Core.Path.{_≡_};
 ghost use mathlib.Core.Bool.{true, false};
 ghost use lib.ListN.{length};
-ghost use Rattle.gather.specs.Gather.{added, addedTo, Follows, Goes, Leads, GoesIn};
-use crate::Gatherer;
-use crate::above;
-use crate::early;
-use crate::end_of;
-use crate::rising::rises_closely;
-use crate::too_many;
+ghost use Rattle.gather_core.specs.Gather.{added, addedTo, Follows, Goes, GoesIn};
+ghost use Rattle.gather.specs.Records.{Leads};
+use gather_core::Gatherer;
+use gather_core::above;
+use gather_core::early;
+use gather_core::end_of;
+use gather_core::rises_closely;
+use gather_core::too_many;
 
 // Whether a row has others before it, and tests 12, 3 and 2 let it pass.
 fn follows(g: Gatherer, room: usize, row: u64) -> bool

@@ -13,7 +13,7 @@ use contract.Monad.{Fun}
 use denote.Triple.Spec.{tripleOf}
 use denote.Triple.Statement.{Contract}
 use Rattle.model.proofs.Answers.{same-number}
-use Rattle.gather.specs.declared.Gatherer.{Gatherer}
+use Rattle.gather_core.specs.declared.Gatherer.{Gatherer}
 use Rattle.gather.specs.declared.lent.Added.{Added}
 use Rattle.gather.specs.declared.lent.Added.the-variants.{Done, Refused}
 use Rattle.gather.specs.Records.{addedAnswer}

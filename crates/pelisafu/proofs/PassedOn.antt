@@ -9,9 +9,9 @@ use denote.Plain.{uint-lawful}
 use denote.Steps.{heard}
 use denote.Triple.Clauses.{Clauses}
 use denote.Triple.Walked.{gave-ref, goes-gave-ref}
-use Rattle.gather.specs.declared.Gatherer.{Gatherer}
-use Rattle.gather.proofs.Gatherer as T
-use Rattle.gather.proofs.Gatherer.Laws as T′
+use Rattle.gather_core.specs.declared.Gatherer.{Gatherer}
+use Rattle.gather_core.proofs.Gatherer as T
+use Rattle.gather_core.proofs.Gatherer.Laws as T′
 use Rattle.gather.proofs.lent.Added as E
 use Rattle.gather.proofs.lent.Added.Laws as E′
 use Rattle.gather.proofs.Third.{Third, type-at, lent, lent-clauses, Lent, adding, adding-clauses, Adding, held, record-ref, table-ref, table-ptr, anew}

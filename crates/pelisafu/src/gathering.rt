@@ -5,7 +5,7 @@ use gather::Gatherer;
 use gather::Step;
 ghost use mathlib.Core.Path.{_≡_};
 ghost use lib.ListN.{length};
-ghost use Rattle.gather.specs.Gather.{rowAnswer, rowTable, pageAnswer, pageTable};
+ghost use Rattle.gather_core.specs.Gather.{rowAnswer, rowTable, pageAnswer, pageTable};
 ghost use Rattle.gather.specs.Records.{addedAnswer, rowRecord, pageRecord};
 ghost use Rattle.pelisafu.specs.Shown.{shownGathered, numberOf};
 

@@ -19,12 +19,12 @@ use Rattle.model.proofs.Tests.{both-left, both-right, all-at, pick-true, pick-f
 use Rattle.model.proofs.Writing.{over-take}
 use Rattle.cost.specs.Rows.{Covered}
 use Rattle.model.proofs.Positions.{positions-rising}
-use Rattle.gather.specs.declared.Gatherer.{Gatherer}
-use Rattle.gather.specs.Gather.{rises, upAt, addedAll, addedAllTo, Counted}
-use Rattle.gather.specs.Seeds.{startOf, seedAt, seedsFit, windows}
-use Rattle.gather.proofs.Admitted.{passes}
-use Rattle.gather.proofs.Seeds.{gathers-none, all-keeps, gathers-fit}
-use Rattle.gather.proofs.Windows.{windows-singly}
+use Rattle.gather_core.specs.declared.Gatherer.{Gatherer}
+use Rattle.gather_core.specs.Gather.{rises, upAt, addedAll, addedAllTo, Counted}
+use Rattle.gather_core.specs.Seeds.{startOf, seedAt, seedsFit, windows}
+use Rattle.gather_core.proofs.Admitted.{passes}
+use Rattle.gather_core.proofs.Seeds.{gathers-none, all-keeps, gathers-fit}
+use Rattle.gather_core.proofs.Windows.{windows-singly}
 use Rattle.planning.specs.Refusals.{coverageFits, countFits, rowsFit, givenFit, endsOf, roomFits, earlyNumber}
 use Rattle.planning.specs.Segments.{part, between}
 

@@ -15,7 +15,7 @@ use Rattle.model.proofs.Rising.{rising-high, rising-wider}
 use Rattle.cost.specs.Statistics.{statsOf, spanOf}
 use Rattle.cost.proofs.Joining.{stats-append}
 use Rattle.model.proofs.Positions.{length-positions, getD-positions}
-use Rattle.gather.specs.Seeds.{startOf, seedsFit}
+use Rattle.gather_core.specs.Seeds.{startOf, seedsFit}
 use Rattle.single.specs.Layout.{firstOf, extentOf}
 use Rattle.merge.specs.Rule.{without, cutsFrom, best, afterJoins, merged}
 use Rattle.merge.specs.Pairs.{rowsAdmitted, rowsSaving}

@@ -14,7 +14,7 @@ use Rattle.model.specs.Lists.{Rising}
 use Rattle.model.proofs.Tests.{either, both-left, both-right, pick-most, pick-true, pick-false}
 use Rattle.cost.specs.declared.Form.{Form}
 use Rattle.cost.proofs.Stated.{stated-whole}
-use Rattle.gather.proofs.Admitted.{passes}
+use Rattle.gather_core.proofs.Admitted.{passes}
 use Rattle.planning.specs.Refusals.{coverageFits, countFits, rowsFit, givenFit, roomFits, earlyNumber}
 use Rattle.planning.specs.Segments.{statsEach}
 use Rattle.planning.specs.Bodies.{segmentedForm, segmentedLayout, formFor, bodyOf}

@@ -6,8 +6,8 @@ use Prim.Native.Nat.{ℕ, _-_, _*_}
 use lib.Dec.{eqb, leb, ltb}
 use lib.ListN.{length, getD}
 use Rattle.model.specs.Tests.{pick, both}
-use Rattle.gather.specs.Gather.{rises}
-use Rattle.gather.specs.Seeds.{seedsFit, windows}
+use Rattle.gather_core.specs.Gather.{rises}
+use Rattle.gather_core.specs.Seeds.{seedsFit, windows}
 
 -- 1: end < start, or span 0, or span > 4,294,967,295
 unfoldable pub coverageFits : ℕ → ℕ → Bool

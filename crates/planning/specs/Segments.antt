@@ -5,7 +5,7 @@ use Prim.Native.Nat.{ℕ, _-_}
 use lib.ListN.{length, take, drop}
 use Rattle.cost.specs.declared.Stats.{Stats}
 use Rattle.cost.specs.Statistics.{statsOf}
-use Rattle.gather.specs.Seeds.{startOf}
+use Rattle.gather_core.specs.Seeds.{startOf}
 use Rattle.merge.specs.Rule.{merged, offers, cutsFrom}
 use Rattle.merge.specs.Pairs.{rowsAdmitted, rowsSaving}
 

@@ -11,8 +11,8 @@ use lib.ListN.{length, getD}
 use borrow.Author.Tests.{ltb-true, lt-ltb, le-leb, eqb-true, eq-eqb, ne-eqb}
 use Rattle.model.specs.Tests.{both, all}
 use Rattle.model.proofs.Tests.{same-test, both-true, both-left, both-right, both-first, all-at, all-from, pick-true, pick-false}
-use Rattle.gather.specs.Gather.{upAt, rises}
-use Rattle.gather.specs.Seeds.{startOf, seedAt, seedsFit, windows}
+use Rattle.gather_core.specs.Gather.{upAt, rises}
+use Rattle.gather_core.specs.Seeds.{startOf, seedAt, seedsFit, windows}
 use Rattle.model.proofs.Counted.{and-both, flag-step}
 use Rattle.planning.specs.Refusals.{givenFit, endsOf}
 use Rattle.planning.proofs.Dividing.{climbs, seed-fits, rises-next}

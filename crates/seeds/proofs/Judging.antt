@@ -10,7 +10,7 @@ use lib.ListN.{length, getD}
 use borrow.Author.Tests.{leb-true, le-leb, le-ltb, lt-ltb}
 use Rattle.model.specs.Tests.{pick, both}
 use Rattle.model.proofs.Tests.{both-true, both-left, both-right, both-first, strictly}
-use Rattle.gather.specs.Gather.{rises}
+use Rattle.gather_core.specs.Gather.{rises}
 use Rattle.model.proofs.Counted.{and-both}
 use Rattle.planning.specs.Refusals.{coverageFits, countFits, rowsFit, givenFit, endsOf, roomFits, earlyNumber}
 use Rattle.planning.proofs.Dividing.{fit-divides, divides-few, ends-fit}

@@ -15,7 +15,7 @@ use Rattle.cost.specs.Statistics.{statsOf}
 use Rattle.cost.specs.Rows.{Covered}
 use Rattle.model.proofs.Positions.{positions-take, positions-drop}
 use Rattle.cost.proofs.Positions.{covered-few}
-use Rattle.gather.specs.Seeds.{startOf, windows}
+use Rattle.gather_core.specs.Seeds.{startOf, windows}
 use Rattle.merge.specs.Tables.{putStat}
 use Rattle.merge.proofs.Tables.{stat-length, stat-here, stat-other}
 use Rattle.planning.specs.Refusals.{endsOf}

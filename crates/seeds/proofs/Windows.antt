@@ -11,8 +11,8 @@ use lib.ListN.{length, getD, length-append, List·getD-append}
 use lib.Seq.{getD-at}
 use Rattle.model.specs.Tests.{pick}
 use Rattle.model.proofs.Tests.{either, order, never, strictly, last-or-before, same-or-not, both-left, pick-true, pick-false}
-use Rattle.gather.specs.Seeds.{startOf, sameAt, cuts, windows}
-use Rattle.gather.proofs.Windows.{cuts-same, cuts-more}
+use Rattle.gather_core.specs.Seeds.{startOf, sameAt, cuts, windows}
+use Rattle.gather_core.proofs.Windows.{cuts-same, cuts-more}
 use Rattle.planning.specs.Refusals.{givenFit, endsOf}
 use Rattle.seeds.specs.Ends.{together, Window}
 use Rattle.seeds.proofs.Ends.{Following, rise-following, fit-parts, none-ends, given-ends, given-fit}

@@ -7,8 +7,8 @@ use Prim.Native.Nat.{ℕ, suc, _-_, _/_, _<_, _≤_}
 use lib.Dec.{eqb, leb, ltb}
 use lib.ListN.{length, getD}
 use Rattle.model.specs.Tests.{both}
-use Rattle.gather.specs.Gather.{rises}
-use Rattle.gather.specs.Seeds.{startOf, sameAt}
+use Rattle.gather_core.specs.Gather.{rises}
+use Rattle.gather_core.specs.Seeds.{startOf, sameAt}
 
 -- first at least 1, strictly rising, last = row count
 unfoldable pub endsRise : ℕ → List ℕ → Bool

@@ -8,7 +8,7 @@ use lib.ListN.{length}
 use Rattle.cost.specs.Statistics.{statsOf}
 use Rattle.model.specs.Lists.{positionsOf}
 use Rattle.cost.specs.Rows.{Covered}
-use Rattle.gather.specs.Seeds.{startOf}
+use Rattle.gather_core.specs.Seeds.{startOf}
 use Rattle.merge.specs.Tables.{base, statAt}
 use Rattle.planning.specs.Refusals.{givenFit, endsOf}
 use Rattle.planning.specs.Segments.{between}

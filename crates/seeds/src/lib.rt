@@ -8,8 +8,8 @@ ghost use Prim.Native.Nat.{_*_, _<_, _≤_};
 ghost use lib.Dec.{leb};
 ghost use lib.ListN.{length};
 ghost use Rattle.model.specs.Tests.{pick, both, all};
-ghost use Rattle.gather.specs.Gather.{rises};
-ghost use Rattle.gather.specs.Seeds.{seedsFit, windows};
+ghost use Rattle.gather_core.specs.Gather.{rises};
+ghost use Rattle.gather_core.specs.Seeds.{seedsFit, windows};
 ghost use Rattle.planning.specs.Refusals.{coverageFits, rowsFit, givenFit, endsOf};
 ghost use Rattle.seeds.specs.Ends.{endsRise, near, nearAt, together};
 ghost use Rattle.seeds.specs.Judged.{Judged};
@@ -46,7 +46,7 @@ fn rows_fit(start: u64, end: u64, rows: &[u64]) -> bool
 {
     let first = rows[0];
     let last = rows[rows.len() - 1];
-    (start <= first) & (last < end) & gather::rises(rows)
+    (start <= first) & (last < end) & gather_core::rises(rows)
 }
 
 // Whether ordinals, or ends, rise strictly.

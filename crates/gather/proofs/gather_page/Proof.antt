@@ -3,9 +3,10 @@
 use mathlib.Core.Path.{sym, _∙_}
 use borrow.Author.Needs.{needs}
 use Rattle.model.specs.Tests.{pick}
-use Rattle.gather.specs.Gather.{answerOf, answered}
-use Rattle.gather.proofs.Admitted.{answered-yes, answered-no, kept-new, kept-old}
-use Rattle.gather.proofs.Pages.{empty-answer, empty-table, some-answer, some-table, page-admitted}
+use Rattle.gather_core.specs.Gather.{answered}
+use Rattle.gather.specs.Records.{answerOf}
+use Rattle.gather_core.proofs.Admitted.{answered-yes, answered-no, kept-new, kept-old}
+use Rattle.gather_core.proofs.Pages.{empty-answer, empty-table, some-answer, some-table, page-admitted}
 use Rattle.gather.proofs.gather_page.Statement.{statement}
 use Rattle.gather.proofs.gather_page.Tie as tie
 

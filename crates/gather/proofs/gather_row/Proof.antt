@@ -2,8 +2,9 @@
 -- Assumes nothing.
 use mathlib.Core.Path.{sym, _∙_}
 use borrow.Author.Needs.{needs}
-use Rattle.gather.specs.Gather.{answerOf, rowAnswer, rowTable}
-use Rattle.gather.proofs.Admitted.{answered-yes, answered-no, kept-new, kept-old, row-admitted}
+use Rattle.gather_core.specs.Gather.{rowAnswer, rowTable}
+use Rattle.gather.specs.Records.{answerOf}
+use Rattle.gather_core.proofs.Admitted.{answered-yes, answered-no, kept-new, kept-old, row-admitted}
 use Rattle.gather.proofs.gather_row.Statement.{statement}
 use Rattle.gather.proofs.gather_row.Tie as tie
 

@@ -7,7 +7,7 @@ use native.Mathlib.Omega.{arith}
 use borrow.Author.Needs.{needs}
 use lib.ListN.{length}
 use Rattle.model.proofs.Counted.{met, missed}
-use Rattle.gather.specs.Seeds.{windows}
+use Rattle.gather_core.specs.Seeds.{windows}
 use Rattle.planning.specs.Refusals.{countFits, endsOf}
 use Rattle.seeds.proofs.Ends.{none-fit, none-ends}
 use Rattle.seeds.proofs.Judging.{ordinals-none, ordinals-some, count-some, seeds-few, fails-1, fails-2, fails-3, last-judges}

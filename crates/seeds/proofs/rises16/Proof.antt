@@ -7,7 +7,7 @@ use borrow.Author.Needs.{needs}
 use lib.ListN.{length}
 use Rattle.model.specs.Tests.{all}
 use Rattle.model.proofs.Counted.{flag-step}
-use Rattle.gather.specs.Gather.{upAt, rises}
+use Rattle.gather_core.specs.Gather.{upAt, rises}
 use Rattle.seeds.proofs.rises16.Statement.{statement}
 use Rattle.seeds.proofs.rises16.Tie as tie
 

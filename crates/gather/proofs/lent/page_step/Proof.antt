@@ -2,7 +2,7 @@
 -- Assumes nothing.
 use native.Mathlib.Omega.{arith}
 use borrow.Author.Needs.{needs}
-use Rattle.gather.proofs.Pages.{page-admitted}
+use Rattle.gather_core.proofs.Pages.{page-admitted}
 use Rattle.gather.proofs.Taken.{apart, page-done}
 use Rattle.gather.proofs.lent.page_step.Statement.{statement}
 use Rattle.gather.proofs.lent.page_step.Tie as tie

@@ -3,7 +3,8 @@
 use mathlib.Core.Bool.{true, false}
 use borrow.Author.Needs.{needs}
 use lib.ListN.{length}
-use Rattle.gather.specs.Gather.{Goes, Leads}
+use Rattle.gather_core.specs.Gather.{Goes}
+use Rattle.gather.specs.Records.{Leads}
 use Rattle.gather.proofs.Taken.{apart, together, row-done, row-refused}
 use Rattle.gather.proofs.lent.row_step.Statement.{statement}
 use Rattle.gather.proofs.lent.row_step.Tie as tie

@@ -2,7 +2,7 @@
 -- Assumes nothing.
 use mathlib.Core.Path.{_∙_}
 use borrow.Author.Needs.{needs}
-use Rattle.gather.specs.Gather.{rowAnswer}
+use Rattle.gather_core.specs.Gather.{rowAnswer}
 use Rattle.gather.specs.Records.{rowRecord}
 use Rattle.gather.proofs.Taken.{taken-answer, taken-record}
 use Rattle.gather.proofs.lent.tested_row.Statement.{statement}

@@ -4,7 +4,7 @@ use mathlib.Core.Bool.{false≢true}
 use Prim.Native.Nat.{_≤_}
 use native.Mathlib.Omega.{arith}
 use borrow.Author.Tests.{ltb-true, ltb-false}
-use Rattle.gather.proofs.Admitted.{follows, followed, followed-order, followed-above}
+use Rattle.gather_core.proofs.Admitted.{follows, followed, followed-order, followed-above}
 use Rattle.gather.proofs.quick.follows.Statement.{statement}
 use Rattle.gather.proofs.quick.follows.Tie as tie
 

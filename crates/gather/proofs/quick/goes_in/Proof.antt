@@ -6,7 +6,7 @@ use Prim.Native.Nat.{_≤_}
 use native.Mathlib.Omega.{arith}
 use borrow.Author.Needs.{needs}
 use borrow.Author.Tests.{ltb-false}
-use Rattle.gather.proofs.Pages.{goes-in}
+use Rattle.gather_core.proofs.Pages.{goes-in}
 use Rattle.gather.proofs.quick.goes_in.Statement.{statement}
 use Rattle.gather.proofs.quick.goes_in.Tie as tie
 

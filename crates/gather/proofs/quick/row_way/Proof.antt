@@ -4,8 +4,9 @@ use mathlib.Core.Path.{_≡_, sym, _∙_}
 use mathlib.Core.Logic.{⊎-elim}
 use native.Mathlib.Omega.{arith}
 use borrow.Author.Needs.{needs}
-use Rattle.gather.specs.Gather.{early, above, rowNumber, Follows, Leads}
-use Rattle.gather.proofs.Admitted.{Begins, first-refuses, goes-on, elsewhere, first-row, begins, no-room, not-following, unmatched}
+use Rattle.gather_core.specs.Gather.{early, above, rowNumber, Follows}
+use Rattle.gather.specs.Records.{Leads}
+use Rattle.gather_core.proofs.Admitted.{Begins, first-refuses, goes-on, elsewhere, first-row, begins, no-room, not-following, unmatched}
 use Rattle.gather.proofs.quick.row_way.Statement.{statement}
 use Rattle.gather.proofs.quick.row_way.Tie as tie
 

@@ -1,0 +1,3 @@
+pub mod Gather
+pub mod Steps
+pub mod Seeds
