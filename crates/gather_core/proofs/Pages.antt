@@ -4,7 +4,7 @@ use mathlib.Core.Path.{_≡_, refl, _∙_}
 use mathlib.Core.Bool.{true, false}
 use mathlib.Core.Logic.{⊎-elim}
 use mathlib.Core.List.{List, _∷_}
-use Prim.Native.Nat.{ℕ, zero, suc, _+_, _<_, _≤_}
+use Prim.Native.Nat.{ℕ, zero, suc, _+_, _-_, _<_, _≤_}
 use native.Mathlib.Omega.{arith}
 use lib.ListN.{length, set}
 use borrow.Author.Tests.{ltb-true, eq-eqb, ne-eqb}
@@ -75,10 +75,10 @@ module _ (g : Gatherer) (rows : List ℕ) where
   paged-few some = ⊎-elim (λ e. rw (paged-one e) (omega arith)) (λ e. rw (paged-rows e) (entries-few rows g)) (either (oneSeed rows))
 
   -- a page that goes in behind others, where each of its rows has room
-  pub goes-in : (room : ℕ) → 0 < length rows → Able g room → 1 ≤ g .entries → g .entries + length rows ≤ room → g .rows + length rows ≤ 65535 → rises (g .last ∷ rows) ≡ true → GoesIn g room rows
+  pub goes-in : (room : ℕ) → 0 < length rows → Able g room → 1 ≤ g .entries → length rows ≤ room - g .entries → g .rows + length rows ≤ 65535 → rises (g .last ∷ rows) ≡ true → GoesIn g room rows
   unfolding someNumber
   goes-in room any a some free few r =
       let up = last-above g (firstOf rows) (λ z. omega (arith, a .in-rows)) (ltb-true _ _ (rises-first (g .last) rows any r)) in
       let k : Counted g (length rows) = record { few = few; in-rows = a .in-rows; some = a .some } in
       let p = passing g room _ (length rows) (record { able = a; rises = both-true _ _ up (rises-rest (g .last) rows r); counted = k }) in
-      record { any = any; number = second-decides _ _ p ∙ fitting (paged g rows) room (omega (arith, paged-few any)) }
+      record { any = any; number = second-decides _ _ p ∙ fitting (paged g rows) room (omega (arith, paged-few any, a .in-room)) }

@@ -20,25 +20,34 @@ pub fn number_of(a: Added) -> u8
     }
 }
 
+// The record is put together anew: where it was passed on whole, the compiled code moved the answer by bytes from the number on,
+// and read them in other pieces than they had just been stored in, which waits.
 fn of_step(s: Step) -> Gathered
     ensures { λ r. ⌜ r ≡ shownGathered (addedAnswer (s .answer) (s .after)) (s .after) ⌝ }
 {
     let answer = s.answer;
     let after = s.after;
+    let record = Gatherer {
+        entries: after.entries,
+        rows: after.rows,
+        first: after.first,
+        last: after.last,
+    };
     Gathered {
         number: number_of(answer),
-        record: after,
+        record: record,
     }
 }
 
-// ---- by value: every test in its order. A record that is passed and answered lies in memory, so few tests less would gain nothing
+// ---- by value: a row goes as into a lent record, a page by every test in its order. Were a page to go as into a lent record too,
+// the compiled code of that call would have two callers, and each would reach it by a call more
 
 #[no_mangle]
 pub extern "C" fn pelisafu_gather_row(g: Gatherer, table: &mut [u16], row: u64) -> Gathered
     ensures { λ r. ⌜ r ≡ shownGathered (rowAnswer g (length (now (table .entry))) row) (rowRecord g (length (now (table .entry))) row) ⌝ }
     ensures { λ _. ⌜ now (table .exit) ≡ rowTable g (now (table .entry)) row ⌝ }
 {
-    of_step(gather::tested_row(g, table, row))
+    of_step(gather::lend_row(g, table, row))
 }
 
 #[no_mangle]

@@ -33,4 +33,4 @@ goes-in-spec =
     let c1 = c2 .before .before in
     let some : 1 ≤ c1 .before .before .args .g .entries = omega (arith, c2 .if2 .left) in
     let few = ltb-false _ _ (sym (c6 .before .too-many .ensures) ∙ c6 .if6 .left) in
-    goes-in _ _ _ (omega (arith, c1 .if1 .left)) (record { in-room = c3 .if3 .left; in-rows = c5 .if5 .left; some = λ n. some; ordered = λ n. c7 .if7 .left }) some (omega (arith, c3 .if3 .left, c4 .if4 .left)) few (c .rises-closely .ensures e)))
+    goes-in _ _ _ (omega (arith, c1 .if1 .left)) (record { in-room = c3 .if3 .left; in-rows = c5 .if5 .left; some = λ n. some; ordered = λ n. c7 .if7 .left }) some (c4 .if4 .left) few (c .rises-closely .ensures e)))

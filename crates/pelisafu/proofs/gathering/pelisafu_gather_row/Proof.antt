@@ -13,5 +13,5 @@ pelisafu-gather-row-spec =
     (λ c κs. search needs)
     (λ c. search needs)
     (λ c.
-    let k = c .before .before .before .tested-row .ensures in
+    let k = c .before .before .before .lend-row .ensures in
     (rw (c .of-step .ensures, k .0, k .1 .0) (refl), k .1 .1)))
