@@ -9,10 +9,10 @@ use lib.ListN.{length}
 use borrow.Author.Tests.{eq-eqb, ne-eqb}
 use Rattle.model.proofs.Tests.{pick-true, pick-false}
 use Rattle.model.specs.Lists.{Rising, runsOf, positionsOf}
-use Rattle.cost.specs.declared.Stats.{Stats}
+use Rattle.stats.specs.declared.Stats.{Stats}
+use Rattle.stats.specs.Statistics.{statsOf}
+use Rattle.stats.specs.Rows.{Covered}
 use Rattle.cost.specs.declared.Form.{Form}
-use Rattle.cost.specs.Statistics.{statsOf}
-use Rattle.cost.specs.Rows.{Covered}
 use Rattle.model.proofs.Runs.{runs-most}
 use Rattle.model.proofs.Positions.{length-positions}
 use Rattle.single.specs.Layout.{plainLayout, trimmedLayout, singleLayout}

@@ -14,15 +14,15 @@ use Rattle.model.proofs.Pieces.{flat-length-le}
 use Rattle.model.proofs.Sums.{flat-total}
 use Rattle.model.proofs.Rising.{rising-take, rising-drop, rising-ends}
 use Rattle.model.specs.Lists.{Rising, positionsOf}
-use Rattle.cost.specs.declared.Stats.{Stats}
+use Rattle.stats.specs.declared.Stats.{Stats}
+use Rattle.stats.specs.Statistics.{statsOf, spanOf}
+use Rattle.stats.specs.Rows.{Covered}
 use Rattle.cost.specs.declared.Form.{Form}
-use Rattle.cost.specs.Statistics.{statsOf, spanOf}
-use Rattle.cost.specs.Rows.{Covered}
 use Rattle.cost.specs.Forms.{localForm}
 use Rattle.model.proofs.Positions.{length-positions, positions-take, positions-drop}
-use Rattle.cost.proofs.Positions.{stats-rows, covered-sound}
+use Rattle.stats.proofs.Positions.{stats-rows, covered-sound}
 use Rattle.single.specs.Layout.{firstOf, extentOf}
-use Rattle.merge.specs.Tables.{next, statAt}
+use Rattle.links.specs.Tables.{next, statAt}
 use Rattle.directory.specs.Directory.{directorySize}
 use Rattle.directory.specs.Layout.{directoryLayout}
 use Rattle.directory.proofs.LaidOut.{entryFor}

@@ -6,9 +6,9 @@ use mathlib.Core.List.{List, [], _∷_, _++_, append-assoc, append-nil}
 use Prim.Native.Nat.{ℕ, _<_, _≤_}
 use native.Mathlib.Omega.{arith}
 use lib.ListN.{length, length-append}
-use Rattle.cost.specs.Statistics.{statsOf, spanOf}
-use Rattle.cost.proofs.Joining.{stats-append}
-use Rattle.merge.specs.Tables.{next, statAt}
+use Rattle.stats.specs.Statistics.{statsOf, spanOf}
+use Rattle.stats.proofs.Joining.{stats-append}
+use Rattle.links.specs.Tables.{next, statAt}
 use Rattle.planning.specs.Segments.{statsEach}
 use Rattle.planning.specs.Held.{Held, end, more}
 

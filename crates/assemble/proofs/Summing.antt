@@ -11,16 +11,16 @@ use borrow.Author.Tests.{le-leb, lt-leb}
 use Rattle.model.proofs.Tests.{pick-true, pick-false, order}
 use Rattle.model.specs.Lists.{Rising, none}
 use Rattle.model.proofs.Rising.{rising-append, rising-split}
-use Rattle.cost.specs.declared.Stats.{Stats}
+use Rattle.stats.specs.declared.Stats.{Stats}
+use Rattle.stats.specs.Statistics.{statsOf, spanOf, holesOf, Sound}
+use Rattle.stats.proofs.Joining.{stats-append, stats-sound, stats-neighbours}
 use Rattle.cost.specs.declared.Form.{Form}
 use Rattle.cost.specs.Sizes.{depthOf}
-use Rattle.cost.specs.Statistics.{statsOf, spanOf, holesOf, Sound}
 use Rattle.cost.specs.Forms.{localForm, itemsForm, bitmapForm, denseForm}
-use Rattle.cost.proofs.Joining.{stats-append, stats-sound, stats-neighbours}
 use Rattle.cost.proofs.Depths.{depth-least}
 use Rattle.cost.proofs.Least.{local-short}
 use Rattle.cost.proofs.Chosen.{Local, dense, list, runs, missing, bitmap, local-chosen}
-use Rattle.merge.specs.Tables.{next, statAt}
+use Rattle.links.specs.Tables.{next, statAt}
 use Rattle.planning.specs.Segments.{statsEach}
 use Rattle.planning.specs.Bodies.{payloads, larger, deepest, widest, segmentedForm}
 use Rattle.planning.specs.Held.{Held}

@@ -5,10 +5,10 @@ use mathlib.Core.List.{List}
 use Prim.Native.Nat.{ℕ, _+_, _*_, _<_, _≤_}
 use lib.ListN.{length, getD}
 use Rattle.model.specs.Lists.{Rising, positionsOf}
-use Rattle.cost.specs.declared.Stats.{Stats}
+use Rattle.stats.specs.declared.Stats.{Stats}
+use Rattle.stats.specs.Statistics.{spanOf, Sound}
+use Rattle.stats.specs.Rows.{Covered}
 use Rattle.cost.specs.declared.Form.{Form}
-use Rattle.cost.specs.Statistics.{spanOf, Sound}
-use Rattle.cost.specs.Rows.{Covered}
 use Rattle.cost.specs.Forms.{localForm}
 use Rattle.forms.specs.Forms.{localLayout}
 use Rattle.directory.specs.Directory.{directorySize}

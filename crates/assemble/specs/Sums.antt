@@ -6,9 +6,9 @@ use mathlib.Core.List.{List}
 use Prim.Native.Nat.{ℕ, _+_, _*_, _<_, _≤_}
 use lib.ListN.{length}
 use Rattle.model.specs.Lists.{Rising}
-use Rattle.cost.specs.declared.Stats.{Stats}
+use Rattle.stats.specs.declared.Stats.{Stats}
+use Rattle.stats.specs.Statistics.{statsOf, joined, spanOf, Neighbours}
 use Rattle.cost.specs.Sizes.{depthOf}
-use Rattle.cost.specs.Statistics.{statsOf, joined, spanOf, Neighbours}
 use Rattle.cost.specs.Forms.{localForm}
 use Rattle.planning.specs.Segments.{statsEach}
 use Rattle.planning.specs.Bodies.{larger, segmentedForm}

@@ -5,7 +5,7 @@ ghost use Prim.Native.Nat.{_+_, _*_, _<_, _≤_};
 ghost use mathlib.Core.List.{_++_};
 ghost use lib.ListN.{length};
 ghost use Rattle.fields.specs.Le.{digits};
-ghost use Rattle.cost.specs.Statistics.{Sound};
+ghost use Rattle.stats.specs.Statistics.{Sound};
 ghost use Rattle.cost.specs.Forms.{localForm};
 ghost use Rattle.planning.specs.Bodies.{larger};
 ghost use Rattle.directory.specs.Directory.{directorySize};
@@ -22,14 +22,14 @@ pub struct Tally {
     pub bytes: u64,
     pub depth: u32,
     pub words: u32,
-    pub stats: cost::Stats,
+    pub stats: stats::Stats,
 }
 
 // The segments after merging, the costs of their body, and the statistics of all rows.
 pub struct Summary {
     pub segments: usize,
     pub form: cost::Form,
-    pub stats: cost::Stats,
+    pub stats: stats::Stats,
 }
 
 fn larger(a: u32, b: u32) -> u32
@@ -38,7 +38,7 @@ fn larger(a: u32, b: u32) -> u32
     if a <= b { b } else { a }
 }
 
-fn one(s: cost::Stats) -> Tally
+fn one(s: stats::Stats) -> Tally
     requires { ⌜ Sound s ⌝ }
     ensures { λ r. ⌜ r ≡ one s ⌝ }
 {
@@ -53,7 +53,7 @@ fn one(s: cost::Stats) -> Tally
 }
 
 // One segment more, behind the others.
-fn also(t: Tally, s: cost::Stats) -> Tally
+fn also(t: Tally, s: stats::Stats) -> Tally
     requires { ⌜ Adds t s ⌝ }
     ensures { λ r. ⌜ r ≡ also t s ⌝ }
 {
@@ -63,7 +63,7 @@ fn also(t: Tally, s: cost::Stats) -> Tally
         bytes: t.bytes + f.bytes,
         depth: larger(t.depth, f.depth),
         words: larger(t.words, f.words),
-        stats: cost::join(t.stats, s),
+        stats: stats::join(t.stats, s),
     }
 }
 
@@ -92,18 +92,18 @@ pub fn summarize(w: &[u32], n: usize) -> Summary
     requires { ⌜ Known n (now w) ⌝ }
     ensures { λ r. ⌜ Summed n (now (w .entry)) r ⌝ }
 {
-    let mut sum = one(merge::segment(w, 0));
-    let mut x = merge::next(w, 0);
+    let mut sum = one(links::segment(w, 0));
+    let mut x = links::next(w, 0);
     while x < n {
-        sum = also(sum, merge::segment(w, x));
-        x = merge::next(w, x);
+        sum = also(sum, links::segment(w, x));
+        x = links::next(w, x);
     }
     finish(sum)
 }
 
 // ---- the bytes of the segmented body
 
-fn entry(s: cost::Stats, tag: u8, ordinal: usize, offset: usize, size: usize) -> Segment
+fn entry(s: stats::Stats, tag: u8, ordinal: usize, offset: usize, size: usize) -> Segment
     requires { ⌜ Small s ordinal offset size ⌝ }
     ensures { λ r. ⌜ r ≡ entryBy s tag ordinal offset size ⌝ }
 {
@@ -142,7 +142,7 @@ fn place_rows(
     at: usize,
     i: usize,
     rows: &[u64],
-    s: cost::Stats,
+    s: stats::Stats,
     ordinal: usize,
 ) -> usize
     requires { ⌜ Piece s (now rows) at i ordinal (length (now out)) ⌝ }
@@ -171,12 +171,12 @@ pub fn segmented_rows(
     let mut a = 0;
     let mut at = directory_size(segments);
     while x < n {
-        let s = merge::segment(w, x);
+        let s = links::segment(w, x);
         let b = a + s.count as usize;
         at = place_rows(out, at, i, &rows[a..b], s, a);
         a = b;
         i += 1;
-        x = merge::next(w, x);
+        x = links::next(w, x);
     }
     head(out, a as u16, segments as u16);
     at
@@ -213,7 +213,7 @@ fn place_ordinals(
     at: usize,
     i: usize,
     ordinals: &[u16],
-    s: cost::Stats,
+    s: stats::Stats,
     ordinal: usize,
 ) -> usize
     requires { ⌜ Piece s (now ordinals) at i ordinal (length (now out)) ⌝ }
@@ -240,12 +240,12 @@ pub fn segmented_ordinals(
     let mut a = 0;
     let mut at = directory_size(segments);
     while x < n {
-        let s = merge::segment(w, x);
+        let s = links::segment(w, x);
         let b = a + s.count as usize;
         at = place_ordinals(out, at, i, &ordinals[a..b], s, a);
         a = b;
         i += 1;
-        x = merge::next(w, x);
+        x = links::next(w, x);
     }
     head(out, a as u16, segments as u16);
     at

@@ -7,9 +7,9 @@ use native.Mathlib.Omega.{arith}
 use lib.Dec.{lit<}
 use borrow.Author.Tests.{eqb-true}
 use Rattle.bitmap.specs.Body.{bitmapLength}
-use Rattle.cost.specs.declared.Stats.{Stats}
+use Rattle.stats.specs.declared.Stats.{Stats}
+use Rattle.stats.specs.Statistics.{spanOf, holesOf}
 use Rattle.cost.specs.declared.Form.{Form}
-use Rattle.cost.specs.Statistics.{spanOf, holesOf}
 use Rattle.cost.specs.Forms.{itemsForm, bitmapForm, denseForm, always, localOffers, localForm, payload}
 use Rattle.cost.proofs.Least.{also, end, least-one, least-first, least-each, local-bitmap}
 

@@ -7,9 +7,9 @@ use Prim.Native.Nat.{ℕ, _+_, _-_, _*_, _<_, _≤_}
 use lib.Dec.{leb}
 use borrow.Author.Tests.{eqb-true, leb-true, leb-false}
 use Rattle.model.proofs.Tests.{either, pick-true, pick-false}
-use Rattle.cost.specs.declared.Stats.{Stats}
+use Rattle.stats.specs.declared.Stats.{Stats}
+use Rattle.stats.specs.Statistics.{spanOf, holesOf}
 use Rattle.cost.specs.declared.Form.{Form}
-use Rattle.cost.specs.Statistics.{spanOf, holesOf}
 use Rattle.cost.specs.Forms.{itemsForm, bitmapForm, denseForm, localOffers, localForm, runsForm, plainOffers, trimmedOffers, wholeForm}
 use Rattle.cost.proofs.Least.{end, also, least-one}
 

@@ -6,11 +6,11 @@ use mathlib.Core.List.{List, [], _∷_, _++_}
 use Prim.Native.Nat.{ℕ, _+_, _-_, _*_}
 use Rattle.model.specs.Tests.{pick, tabulate}
 use Rattle.model.specs.Lists.{range, onto, runsOf, positionsOf}
-use Rattle.cost.specs.declared.Stats.{Stats}
+use Rattle.stats.specs.declared.Stats.{Stats}
 use Rattle.cost.specs.declared.Form.{Form}
 use Rattle.bitmap.specs.Body.{bitmapLength}
+use Rattle.stats.specs.Statistics.{statsOf, joined}
 use Rattle.cost.specs.Sizes.{binary, depthOf}
-use Rattle.cost.specs.Statistics.{statsOf, joined}
 use Rattle.cost.specs.Forms.{itemsForm, bitmapForm, denseForm, orderOf, lex, keyOf, lesser, least, localOffers, localForm, runsForm, plainOffers, trimmedOffers, wholeForm}
 
 form : ℕ → Bool → ℕ → ℕ → ℕ → Form

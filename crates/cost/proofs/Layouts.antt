@@ -17,7 +17,7 @@ use Rattle.runs.proofs.Laid.{length-bytes}
 use Rattle.missing.specs.Missing.{missingLayout}
 use Rattle.bitmap.specs.Body.{bitmapLayout, bitmapLength}
 use Rattle.bitmap.proofs.Laying.{laid-length}
-use Rattle.cost.specs.Statistics.{statsOf, spanOf}
+use Rattle.stats.specs.Statistics.{statsOf, spanOf}
 use Rattle.cost.specs.declared.Form.{Form}
 use Rattle.cost.specs.Forms.{itemsForm, bitmapForm, denseForm, localForm, wholeForm}
 use Rattle.model.proofs.Positions.{length-positions, positions-rising, runs-positions}

@@ -12,9 +12,9 @@ use lib.ListN.{length, getD, replicate}
 use borrow.Author.Tests.{lt-ltb, le-ltb, eq-eqb}
 use Rattle.model.specs.Tests.{pick}
 use Rattle.model.proofs.Tests.{either, order, never, pick-true, pick-false}
-use Rattle.cost.specs.declared.Stats.{Stats}
+use Rattle.stats.specs.declared.Stats.{Stats}
+use Rattle.stats.specs.Statistics.{spanOf, holesOf}
 use Rattle.cost.specs.declared.Form.{Form}
-use Rattle.cost.specs.Statistics.{spanOf, holesOf}
 use Rattle.bitmap.specs.Body.{bitmapLength}
 use Rattle.cost.specs.Forms.{itemsForm, bitmapForm, orderOf, lex, keyOf, lesser, Offer, always, denseForm, least, localOffers, localForm}
 use Rattle.cost.proofs.Choices.{lex-same}

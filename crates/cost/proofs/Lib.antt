@@ -2,9 +2,6 @@ pub mod Depths
 pub mod Choices
 pub mod Least
 pub mod Bytes
-pub mod Joining
-pub mod RunByRun
-pub mod Positions
 pub mod Examples
 pub mod Chosen
 pub mod Layouts

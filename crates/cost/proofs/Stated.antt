@@ -14,9 +14,9 @@ use Rattle.missing.specs.Missing.{missingLayout}
 use Rattle.bitmap.specs.Body.{bitmapLayout}
 use Rattle.forms.specs.Forms.{byTag, localLayout}
 use Rattle.single.specs.Layout.{firstOf, extentOf, plainLayout, trimmedLayout, singleLayout}
-use Rattle.cost.specs.Statistics.{statsOf, spanOf}
+use Rattle.stats.specs.Statistics.{statsOf, spanOf}
+use Rattle.stats.proofs.Joining.{reach}
 use Rattle.cost.specs.Forms.{localForm, wholeForm}
-use Rattle.cost.proofs.Joining.{reach}
 use Rattle.cost.proofs.Layouts.{local-bytes, ownOf, Headed, whole-bytes}
 
 -- a segment: the layout of its rows counted from its first

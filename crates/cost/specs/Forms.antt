@@ -6,9 +6,9 @@ use Prim.Native.Nat.{ℕ, _+_, _-_, _*_, _<_}
 use lib.Dec.{eqb, leb, ltb}
 use Rattle.model.specs.Tests.{pick}
 use Rattle.bitmap.specs.Body.{groupsOf, bitmapLength}
+use Rattle.stats.specs.Statistics.{Sound, spanOf, holesOf}
+use Rattle.stats.specs.declared.Stats.{Stats}
 use Rattle.cost.specs.Sizes.{depthOf}
-use Rattle.cost.specs.Statistics.{Sound, spanOf, holesOf}
-use Rattle.cost.specs.declared.Stats.{Stats}
 use Rattle.cost.specs.declared.Form.{Form}
 
 -- ---- the forms

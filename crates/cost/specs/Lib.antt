@@ -1,4 +1,2 @@
-pub mod Statistics
 pub mod Sizes
 pub mod Forms
-pub mod Rows

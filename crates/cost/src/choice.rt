@@ -4,12 +4,12 @@ ghost use mathlib.Core.Bool.{false};
 ghost use Prim.Native.Nat.{_+_, _*_, _≤_, min};
 ghost use Rattle.model.specs.Tests.{pick};
 ghost use Rattle.bitmap.specs.Body.{bitmapLength};
-ghost use Rattle.cost.specs.Statistics.{Sound, spanOf};
+ghost use Rattle.stats.specs.Statistics.{Sound, spanOf};
 ghost use Rattle.cost.specs.Sizes.{depthOf};
 ghost use Rattle.cost.specs.Forms.{Over, itemsForm, bitmapForm, denseForm, orderOf, lex, keyOf, lesser, least, localForm, payload, runsForm, plainOffers, wholeForm};
 use crate::Form;
-use crate::Stats;
-use crate::one_if;
+use stats::Stats;
+use stats::one_if;
 
 // The bytes of a bitmap of so many positions: a word for 64, and two bytes for 256.
 pub fn bitmap_length(span: u64) -> u64

@@ -1,30 +1,12 @@
-// What a segment's forms cost: its statistics, and the cheapest form.
-ghost use mathlib.Core.Path.{_≡_};
-ghost use Prim.Native.Nat.{_≤_};
-ghost use Rattle.model.specs.Tests.{pick};
-ghost use Rattle.cost.specs.Statistics.{Neighbours, joined};
+// What a segment's forms cost, from its statistics, and the cheapest form.
 
 mod choice;
-mod rows;
 
 pub use choice::bitmap_length;
 pub use choice::depth;
 pub use choice::local_form;
 pub use choice::payload;
 pub use choice::whole_form;
-pub use rows::ordinals_stats;
-pub use rows::position;
-pub use rows::rows_stats;
-pub use rows::run_end;
-pub use rows::run_end16;
-
-// Statistics of some positions that rise: first and last, how many, and how many runs they make.
-pub struct Stats {
-    pub first: u32,
-    pub last: u32,
-    pub count: u32,
-    pub runs: u32,
-}
 
 // A form with its costs. For tag 6 it is plain or trimmed, and tag 8 is trimmed.
 pub struct Form {
@@ -33,24 +15,4 @@ pub struct Form {
     pub bytes: u64,
     pub depth: u32,
     pub words: u32,
-}
-
-fn one_if(t: bool) -> u32
-    ensures { λ r. ⌜ (r ≡ pick t 1 0) × (r ≤ 1) ⌝ }
-{
-    if t { 1 } else { 0 }
-}
-
-// The statistics of two neighbouring segments as one, without a look at rows.
-pub fn join(a: Stats, b: Stats) -> Stats
-    requires { ⌜ Neighbours a b ⌝ }
-    ensures { λ r. ⌜ r ≡ joined a b ⌝ }
-{
-    let touch = one_if(b.first == a.last + 1);
-    Stats {
-        first: a.first,
-        last: b.last,
-        count: a.count + b.count,
-        runs: a.runs + b.runs - touch,
-    }
 }

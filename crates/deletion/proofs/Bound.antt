@@ -15,11 +15,11 @@ use Rattle.model.specs.Tests.{pick}
 use Rattle.model.specs.Answers.{refused}
 use Rattle.model.proofs.Tests.{either, pick-true, pick-false, both-true}
 use Rattle.bitmap.specs.Body.{bitmapLength}
-use Rattle.cost.specs.declared.Stats.{Stats}
+use Rattle.stats.specs.declared.Stats.{Stats}
 use Rattle.cost.specs.Forms.{itemsForm, bitmapForm, denseForm, always, plainOffers, trimmedOffers, wholeForm}
 use Rattle.model.specs.Lists.{positionsOf}
 use Rattle.model.proofs.Answers.{same-number}
-use Rattle.cost.specs.Statistics.{statsOf}
+use Rattle.stats.specs.Statistics.{statsOf}
 use Rattle.cost.proofs.Least.{least-each}
 use Rattle.planning.specs.Refusals.{earlyNumber}
 use Rattle.planning.specs.Planning.{plannedSegments, plannedForm, lateNumber, planNumber, planOf}

@@ -27,15 +27,15 @@ use Rattle.single.specs.Layout.{firstOf, extentOf, plainLayout, trimmedLayout, 
 use Rattle.segmented.specs.Segmented.{segmentedAccepts, segmentedNames, partAccepts, partNames}
 use Rattle.bodies.specs.Bodies.{accepts, names}
 use Rattle.rowset.specs.Calls.{asked, validateOf}
+use Rattle.stats.specs.Statistics.{statsOf, joined}
 use Rattle.cost.specs.Sizes.{binary, depthOf}
-use Rattle.cost.specs.Statistics.{statsOf, joined}
 use Rattle.cost.specs.Forms.{itemsForm, bitmapForm, denseForm, orderOf, lex, keyOf, lesser, least, localOffers, localForm, runsForm, plainOffers, trimmedOffers, wholeForm, payload}
 use Rattle.gather_core.specs.declared.Gatherer.{Gatherer}
 use Rattle.gather_core.specs.Gather.{upAt, rises, impossible, above, early, late, orElse, oneSeed, joins, added, addedTo, addedAll, addedAllTo, seeded, paged, pagedTo, someNumber, pageNumber, pageAnswer, pageTable, kept}
 use Rattle.gather_core.specs.Gather as gather-specs
 use Rattle.gather_core.specs.Seeds.{startOf, seedAt, seedsFit, sameAt, cuts, windows}
 use Rattle.merge.specs.Rule.{without, cutsFrom, oneIf, contains, pairs, pairsWith, better, best, afterJoins, laterOffers, merged, offers}
-use Rattle.merge.specs.Pairs.{admits, saves, rowsAdmitted, rowsSaving}
+use Rattle.links.specs.Pairs.{admits, saves, rowsAdmitted, rowsSaving}
 use Rattle.planning.specs.Refusals.{coverageFits, countFits, rowsFit, givenFit, endsOf, roomFits, earlyNumber}
 use Rattle.planning.specs.Segments.{part, between, cutsLeft, offersFor, pieces, segmentsOf, statsEach}
 use Rattle.planning.specs.Bodies.{payloads, larger, deepest, widest, segmentedForm, segmentAt, tagOf, payloadOf, entriesOf, payloadAt, segmentedLayout, choiceKey, chosen, formFor, layoutBy, bodyOf}

@@ -9,7 +9,7 @@ use lib.ListN.{length, getD}
 use Rattle.model.specs.Lists.{Rising, none, more, positionsOf}
 use Rattle.model.proofs.Tests.{same-eqb}
 use Rattle.model.proofs.Rising.{rising-from, rising-drop}
-use Rattle.cost.specs.Rows.{stretch, runEnd}
+use Rattle.stats.specs.Rows.{stretch, runEnd}
 use Rattle.model.proofs.Positions.{getD-positions, positions-drop}
 
 follows-same : (base x y : ℕ) → base ≤ x → base ≤ y → eqb (y - base) (suc (x - base)) ≡ eqb y (suc x)

@@ -11,8 +11,8 @@ use Rattle.lists.specs.Lists.{listLayout}
 use Rattle.lists.proofs.Bytes.{length-layout}
 use Rattle.missing.specs.Missing.{missingLayout}
 use Rattle.runs.specs.Runs.{runsBytes, runsLayout}
-use Rattle.cost.specs.Rows.{runEnd}
-use Rattle.cost.proofs.RunByRun.{run-after, run-within}
+use Rattle.stats.specs.Rows.{runEnd}
+use Rattle.stats.proofs.RunByRun.{run-after, run-within}
 use Rattle.emit.specs.Written.{Written}
 use Rattle.emit.proofs.Emitting.{Emitting, emitting-next, emitting-room, emitting-end}
 use Rattle.emit.proofs.Pieces.{length-entry}

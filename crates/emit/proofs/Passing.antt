@@ -8,7 +8,7 @@ use native.Mathlib.Omega.{arith}
 use lib.Dec.{eqb}
 use lib.ListN.{length, getD}
 use Rattle.model.specs.Lists.{Rising, runsOf, positionsOf}
-use Rattle.cost.specs.Rows.{runEnd}
+use Rattle.stats.specs.Rows.{runEnd}
 use Rattle.model.proofs.Positions.{length-positions, getD-positions, positions-rising}
 use Rattle.emit.specs.Written.{Written}
 use Rattle.emit.proofs.Emitting.{Emitting, emitting-end}

@@ -9,8 +9,8 @@ use native.Mathlib.Omega.{arith}
 use lib.ListN.{length, getD, drop, drop-of-length-le}
 use Rattle.model.specs.Lists.{Rising, Run, run, runsOf, Apart, stop, next}
 use Rattle.model.proofs.Runs.{apart-runsOf}
-use Rattle.cost.specs.Rows.{runEnd}
-use Rattle.cost.proofs.RunByRun.{run-at, run-after, run-within}
+use Rattle.stats.specs.Rows.{runEnd}
+use Rattle.stats.proofs.RunByRun.{run-at, run-after, run-within}
 use Rattle.emit.specs.Written.{Written}
 use Rattle.emit.proofs.Emitting.{Emitting, emitting-start, emitting-next, emitting-room}
 

@@ -54,7 +54,7 @@ pub fn runs_ordinals(out: &mut [u8], at: usize, ordinals: &[u16], base: u16, wid
     let mut p = at;
     let mut i = 0;
     while i < ordinals.len() {
-        let j = cost::run_end16(ordinals, i);
+        let j = stats::run_end16(ordinals, i);
         p = run_entry(
             out,
             p,
@@ -76,7 +76,7 @@ pub fn missing_ordinals(out: &mut [u8], at: usize, ordinals: &[u16], base: u16, 
     let mut from: u32 = 0;
     let mut i = 0;
     while i < ordinals.len() {
-        let j = cost::run_end16(ordinals, i);
+        let j = stats::run_end16(ordinals, i);
         let first = position16(ordinals[i], base);
         p = list_run(out, p, from, first - from, false);
         from = first + (j - i) as u32;

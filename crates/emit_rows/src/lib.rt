@@ -33,7 +33,7 @@ pub fn list_rows(out: &mut [u8], at: usize, rows: &[u64], base: u64, wide: bool)
     let mut p = at;
     let mut i = 0;
     while i < rows.len() {
-        put_field(out, p, cost::position(rows[i], base), wide);
+        put_field(out, p, stats::position(rows[i], base), wide);
         p += w;
         i += 1;
     }
@@ -47,11 +47,11 @@ pub fn runs_rows(out: &mut [u8], at: usize, rows: &[u64], base: u64, wide: bool)
     let mut p = at;
     let mut i = 0;
     while i < rows.len() {
-        let j = cost::run_end(rows, i);
+        let j = stats::run_end(rows, i);
         p = run_entry(
             out,
             p,
-            cost::position(rows[i], base),
+            stats::position(rows[i], base),
             (j - i) as u16,
             i as u16,
             wide,
@@ -70,8 +70,8 @@ pub fn missing_rows(out: &mut [u8], at: usize, rows: &[u64], base: u64, span: u3
     let mut from: u32 = 0;
     let mut i = 0;
     while i < rows.len() {
-        let j = cost::run_end(rows, i);
-        let first = cost::position(rows[i], base);
+        let j = stats::run_end(rows, i);
+        let first = stats::position(rows[i], base);
         p = list_run(out, p, from, first - from, false);
         from = first + (j - i) as u32;
         i = j;
@@ -202,7 +202,7 @@ fn single_rows(rows: &[u64], word: Word, ahead: Outlook, base: u64, k: usize) ->
     let mut bits = word.bits;
     let mut j = word.next;
     while j < ahead.start {
-        let q = cost::position(rows[j], base);
+        let q = stats::position(rows[j], base);
         if !in_word(q, k) {
             return Word {
                 bits: bits,
@@ -227,7 +227,7 @@ fn run_rows(rows: &[u64], word: Word, ahead: Outlook, base: u64, k: usize) -> Wo
     if ahead.stop <= j {
         return word;
     }
-    let q = cost::position(rows[j], base);
+    let q = stats::position(rows[j], base);
     if !in_word(q, k) {
         return word;
     }

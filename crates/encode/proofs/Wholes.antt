@@ -15,7 +15,7 @@ use Rattle.forms.specs.Forms.{localLayout}
 use Rattle.forms.proofs.Tags.{Other, other-ne}
 use Rattle.single.specs.Layout.{firstOf, extentOf, plainLayout, trimmedLayout}
 use Rattle.single.proofs.Laws.{tag-cases}
-use Rattle.cost.specs.Rows.{Covered}
+use Rattle.stats.specs.Rows.{Covered}
 use Rattle.model.proofs.Positions.{length-positions, getD-positions}
 use Rattle.emit.specs.Written.{Written}
 use Rattle.emit.proofs.Emitting.{written-more, written-length}

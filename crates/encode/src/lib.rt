@@ -6,7 +6,7 @@ ghost use lib.Dec.{ltb};
 ghost use lib.ListN.{length};
 ghost use Rattle.model.specs.Tests.{pick};
 ghost use Rattle.model.specs.Lists.{Rising, runsOf, positionsOf};
-ghost use Rattle.cost.specs.Rows.{Covered};
+ghost use Rattle.stats.specs.Rows.{Covered};
 ghost use Rattle.forms.specs.Forms.{localLayout};
 ghost use Rattle.single.specs.Layout.{plainLayout, trimmedLayout};
 ghost use Rattle.emit.specs.Written.{Written};
@@ -125,7 +125,7 @@ pub fn trimmed_rows(out: &mut [u8], rows: &[u64], start: u64, tag: u8) -> usize
 {
     let n = rows.len();
     let first = rows[0];
-    let base = cost::position(first, start);
+    let base = stats::position(first, start);
     let span = extent(first, rows[n - 1]);
     if tag == 6 {
         let p = bitmap_header(out, 0, base, span, n as u16);

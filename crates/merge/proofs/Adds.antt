@@ -10,14 +10,14 @@ use lib.Dec.{ltb}
 use borrow.Author.Tests.{lt-ltb, le-ltb}
 use Rattle.model.specs.Tests.{both, pick}
 use Rattle.model.proofs.Tests.{either, never, same-or-not, both-first}
-use Rattle.cost.specs.declared.Stats.{Stats}
+use Rattle.stats.specs.declared.Stats.{Stats}
 use Rattle.queue.specs.Keys.{key, occ, one, Heap}
 use Rattle.queue.specs.Contracts.{Pushed, Popped}
 use Rattle.queue.proofs.Keys.{one-same, one-other, occ-some}
+use Rattle.links.specs.Keys.{code}
+use Rattle.links.specs.Pairs.{admits, saves}
+use Rattle.links.specs.Tables.{records, waiting, next, prev, statAt}
 use Rattle.merge.specs.Rule.{oneIf}
-use Rattle.merge.specs.Keys.{code}
-use Rattle.merge.specs.Pairs.{admits, saves}
-use Rattle.merge.specs.Tables.{records, waiting, next, prev, statAt}
 use Rattle.merge.specs.Contracts.{many, Added, pairIs, pairKey, leftIs, leftKey, rightIs, rightKey}
 
 -- ---- one offer

@@ -11,8 +11,8 @@ use lib.Dec.{ltb}
 use borrow.Author.Tests.{eq-eqb, ne-eqb, lt-ltb, le-ltb}
 use Rattle.model.specs.Tests.{both, pick}
 use Rattle.model.specs.Lists.{Rising, more}
+use Rattle.links.specs.Links.{Chain, end, link}
 use Rattle.merge.specs.Rule.{oneIf, contains, pairsWith}
-use Rattle.merge.specs.Links.{Chain, end, link}
 use Rattle.merge.proofs.Cuts.{Meet, here, there, In, first, later, in-cases, in-some, meet-order}
 use Rattle.merge.proofs.Links.{Linked, chain-next}
 use Rattle.merge.proofs.Offers.{contains-not, not-counted, with-none}

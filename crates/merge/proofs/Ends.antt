@@ -1,19 +1,19 @@
--- What merging ends with: neighbours that cost more joined.
+-- What merging ends with: neighbours that cost more joined; and after every join the rows counted are those of all seeds.
 -- Assumes nothing.
-use mathlib.Core.Path.{_≡_}
-use mathlib.Core.Bool.{false}
+use mathlib.Core.Path.{_≡_, ap}
+use mathlib.Core.Bool.{Bool, false}
 use Prim.Native.Nat.{ℕ, suc, _+_, _-_, _<_, _≤_}
 use native.Mathlib.Omega.{arith}
 use Rattle.model.specs.Lists.{Rising}
-use Rattle.cost.specs.declared.Stats.{Stats}
-use Rattle.cost.specs.Statistics.{spanOf}
-use Rattle.merge.specs.Rule.{cutsFrom}
+use Rattle.stats.specs.declared.Stats.{Stats}
+use Rattle.stats.specs.Statistics.{joined, spanOf}
 use Rattle.cost.specs.Forms.{payload}
-use Rattle.merge.specs.Pairs.{segmentOf, admitted, saving, Seeds}
+use Rattle.links.specs.Pairs.{segmentOf, admitted, saving, Seeds}
+use Rattle.links.proofs.Segments.{segment-join, refuses}
+use Rattle.merge.specs.Rule.{counted, afterJoins, cutsFrom}
 use Rattle.merge.specs.Contracts.{cutsOf}
 use Rattle.merge.proofs.Cuts.{Meet, meet-order, cuts-rising}
-use Rattle.merge.proofs.Joins.{merged-ends, merged-rising}
-use Rattle.merge.proofs.Segments.{segment-join, refuses}
+use Rattle.merge.proofs.Joins.{merged-ends, merged-rising, counted-all}
 
 module _ (f : ℕ → Stats) (n : ℕ) where
   pub end-rising : Rising 0 (suc n) (cutsOf f n)
@@ -34,3 +34,10 @@ module _ (f : ℕ → Stats) (n : ℕ) where
         let o = meet-order end-rising w in
         let e = segment-join seeds l m r (o .1) (o .2) (omega arith) in
         rw e (refuses (segmentOf f l m) (segmentOf f m r) (end-refused l m r w) (rw e at h))
+
+module _ {f : ℕ → Stats} {n : ℕ} (s : Seeds f n) where
+  -- the rows that the statistics count are those of all seeds, after every join
+  pub counts-kept : (adm : ℕ → ℕ → ℕ → Bool) (sav : ℕ → ℕ → ℕ → ℕ) → 0 < n → (k : ℕ)
+      → counted (λ l m. segmentOf f l m .count) (afterJoins adm sav k (cutsFrom 0 n)) ≡ segmentOf f 0 n .count
+  unfolding joined
+  counts-kept adm sav z k = counted-all n (λ l m. segmentOf f l m .count) (λ l m r p q h. ap (λ (t : Stats). t .count) (segment-join s l m r p q (omega arith))) adm sav z k

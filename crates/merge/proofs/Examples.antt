@@ -4,12 +4,12 @@ use mathlib.Core.Path.{_≡_, refl}
 use mathlib.Core.List.{[], _∷_}
 use Prim.Native.Nat.{ℕ, zero, suc, _*_}
 use Rattle.model.specs.Tests.{both, pick}
-use Rattle.cost.specs.declared.Stats.{Stats}
-use Rattle.cost.specs.Statistics.{joined}
+use Rattle.stats.specs.declared.Stats.{Stats}
+use Rattle.stats.specs.Statistics.{joined}
 use Rattle.cost.specs.Sizes.{binary, depthOf}
 use Rattle.cost.specs.Forms.{itemsForm, bitmapForm, denseForm, orderOf, lex, keyOf, lesser, least, localOffers, localForm, payload}
+use Rattle.links.specs.Pairs.{admits, saves, totalFrom, segmentOf, admitted, saving}
 use Rattle.merge.specs.Rule.{without, cutsFrom, oneIf, contains, pairs, pairsWith, better, best, afterJoins, laterOffers, merged, offers}
-use Rattle.merge.specs.Pairs.{admits, saves, totalFrom, segmentOf, admitted, saving}
 use Rattle.merge.specs.Contracts.{cutsOf, offersOf}
 
 -- rows 0, 4096 and 8192

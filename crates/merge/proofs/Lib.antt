@@ -5,8 +5,6 @@ pub mod Offers
 pub mod Links
 pub mod Around
 pub mod Queue
-pub mod Segments
-pub mod Tables
 pub mod Adds
 pub mod Steps
 pub mod State

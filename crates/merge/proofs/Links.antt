@@ -8,8 +8,8 @@ use native.Mathlib.Nat.{le-refl}
 use native.Mathlib.Omega.{arith}
 use Rattle.model.specs.Lists.{Rising, more}
 use Rattle.model.proofs.Tests.{same-or-not}
+use Rattle.links.specs.Links.{Chain, end, link}
 use Rattle.merge.specs.Rule.{without}
-use Rattle.merge.specs.Links.{Chain, end, link}
 use Rattle.merge.proofs.Cuts.{Meet, here, there, In, first, later, in-some, meet-cases, meet-order, meet-left, meet-three, without-hit, without-miss, in-without, rising-without}
 
 pub record Linked (n : ℕ) (nx : ℕ → ℕ) (cs : List ℕ) : Type 0 where

@@ -8,16 +8,16 @@ use Prim.Native.Nat.{ℕ, _+_, _*_, _-_, _/_, _%_, _<_, _≤_}
 use native.Mathlib.Omega.{arith}
 use lib.ListN.{length}
 use Rattle.model.proofs.Tests.{either, never}
-use Rattle.cost.specs.declared.Stats.{Stats}
+use Rattle.stats.specs.declared.Stats.{Stats}
 use Rattle.queue.specs.Keys.{key, Heap}
 use Rattle.queue.specs.Contracts.{Popped}
 use Rattle.queue.proofs.Keys.{occ-some}
-use Rattle.merge.specs.declared.Pair.{Pair}
+use Rattle.links.specs.declared.Pair.{Pair}
+use Rattle.links.specs.Links.{Cuts}
+use Rattle.links.specs.Keys.{code, pairOf}
+use Rattle.links.specs.Pairs.{admitted, saving, Seeds}
+use Rattle.links.specs.Tables.{base, records, waiting, isLive}
 use Rattle.merge.specs.Rule.{none, best}
-use Rattle.merge.specs.Links.{Cuts}
-use Rattle.merge.specs.Keys.{code, pairOf}
-use Rattle.merge.specs.Pairs.{admitted, saving, Seeds}
-use Rattle.merge.specs.Tables.{base, records, waiting, isLive}
 use Rattle.merge.specs.Contracts.{Ready, Taken, cutsOf, offersOf, Merged}
 use Rattle.merge.proofs.Joins.{join-end, later-end}
 use Rattle.merge.proofs.Queue.{Offer, best-none}

@@ -9,9 +9,9 @@ use Prim.Native.Nat.{ℕ, suc, _<_, _≤_}
 use native.Mathlib.Omega.{arith}
 use Rattle.model.specs.Lists.{Rising}
 use Rattle.model.proofs.Tests.{same-or-not, never}
+use Rattle.links.specs.Links.{Cuts}
+use Rattle.links.specs.Keys.{code}
 use Rattle.merge.specs.Rule.{none, pair, without, best}
-use Rattle.merge.specs.Links.{Cuts}
-use Rattle.merge.specs.Keys.{code}
 use Rattle.merge.proofs.Cuts.{Meet, meet-order}
 use Rattle.merge.proofs.Best.{Best, chosen}
 use Rattle.merge.proofs.Joins.{by-choice, best-meets}

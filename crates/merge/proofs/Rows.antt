@@ -9,11 +9,11 @@ use lib.ListN.{length}
 use Rattle.model.specs.Lists.{Rising}
 use Rattle.model.proofs.Tests.{same-or-not}
 use Rattle.model.proofs.Rising.{rising-split}
-use Rattle.cost.specs.declared.Stats.{Stats}
-use Rattle.cost.specs.Statistics.{statsOf}
-use Rattle.cost.proofs.Joining.{stats-append, stats-sound, stats-neighbours}
+use Rattle.stats.specs.declared.Stats.{Stats}
+use Rattle.stats.specs.Statistics.{statsOf}
+use Rattle.stats.proofs.Joining.{stats-append, stats-sound, stats-neighbours}
+use Rattle.links.specs.Pairs.{totalFrom, segmentOf, admitted, saving, Seeds, rowsAdmitted, rowsSaving}
 use Rattle.merge.specs.Rule.{merged, offers, cutsFrom}
-use Rattle.merge.specs.Pairs.{totalFrom, segmentOf, admitted, saving, Seeds, rowsAdmitted, rowsSaving}
 use Rattle.merge.specs.Contracts.{cutsOf, offersOf}
 use Rattle.merge.proofs.Same.{merged-same, offers-same}
 

@@ -8,19 +8,19 @@ use native.Mathlib.Omega.{arith}
 use lib.ListN.{length}
 use borrow.Author.Tests.{eqb-true, eq-eqb}
 use Rattle.model.proofs.Tests.{both-left, both-right, both-true}
-use Rattle.cost.specs.declared.Stats.{Stats}
+use Rattle.stats.specs.declared.Stats.{Stats}
 use Rattle.queue.specs.Keys.{Heap}
+use Rattle.links.specs.Links.{Cuts}
+use Rattle.links.specs.Pairs.{segmentOf, admitted, saving, Seeds}
+use Rattle.links.specs.Tables.{base, next, prev, statAt, isLive}
+use Rattle.links.proofs.Segments.{segment-join, segment-neighbours}
 use Rattle.merge.specs.Rule.{cutsFrom, afterJoins, laterOffers, merged, offers}
-use Rattle.merge.specs.Links.{Cuts}
-use Rattle.merge.specs.Pairs.{segmentOf, admitted, saving, Seeds}
-use Rattle.merge.specs.Tables.{base, next, prev, statAt, isLive}
 use Rattle.merge.specs.Contracts.{jointOf, Ready}
 use Rattle.merge.proofs.Cuts.{In, Meet, meet-left}
 use Rattle.merge.proofs.Links.{Linked, next-order, next-meets, linked-before}
 use Rattle.merge.proofs.Queue.{Waiting}
 use Rattle.merge.proofs.Offers.{offers-most}
 use Rattle.merge.proofs.Adds.{Has}
-use Rattle.merge.proofs.Segments.{segment-join, segment-neighbours}
 
 pub record State (f : ℕ → Stats) (n : ℕ) (t h : List ℕ) (q taken : ℕ) : Type 0 where
   pub cs : List ℕ

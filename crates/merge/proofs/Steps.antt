@@ -6,14 +6,14 @@ use mathlib.Core.Bool.{Bool}
 use Prim.Native.Nat.{ℕ, _+_, _*_, _<_, _≤_}
 use native.Mathlib.Omega.{arith}
 use lib.ListN.{length}
-use Rattle.cost.specs.declared.Stats.{Stats}
-use Rattle.cost.specs.Statistics.{Neighbours, joined}
+use Rattle.stats.specs.declared.Stats.{Stats}
+use Rattle.stats.specs.Statistics.{Neighbours, joined}
 use Rattle.queue.specs.Keys.{Heap}
-use Rattle.merge.specs.Links.{Cuts}
-use Rattle.merge.specs.Tables.{base, records, waiting, field, next, prev, statAt, linked}
+use Rattle.links.specs.Links.{Cuts}
+use Rattle.links.specs.Tables.{base, records, waiting, field, next, prev, statAt, linked}
+use Rattle.links.proofs.Tables.{records-length, records-field, read-pair, linked-records, linked-waiting, linked-next, linked-prev, linked-stat, linked-stats}
 use Rattle.merge.specs.Contracts.{Added, jointOf, Left, Right, Ready}
 use Rattle.merge.proofs.Offers.{one-most}
-use Rattle.merge.proofs.Tables.{records-length, records-field, read-pair, linked-records, linked-waiting, linked-next, linked-prev, linked-stat, linked-stats}
 
 -- what the offer of the segment before l, read at p, asks
 pub left-reads : (n q l r p : ℕ) (w : List ℕ) → (l < r) × (r ≤ n) × (n < 65536) → base n + (q * 2 + 1) < length w → Heap (waiting n w) q → Left (records n w) l (statAt (records n w) l)

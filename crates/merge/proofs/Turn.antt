@@ -11,19 +11,19 @@ use lib.Dec.{ltb}
 use borrow.Author.Tests.{lt-ltb, le-ltb, ltb-true}
 use Rattle.model.specs.Tests.{both}
 use Rattle.model.proofs.Tests.{order, same-or-not, both-left, both-right, both-true, both-first}
-use Rattle.cost.specs.declared.Stats.{Stats}
+use Rattle.stats.specs.declared.Stats.{Stats}
 use Rattle.queue.specs.Contracts.{Popped}
+use Rattle.links.specs.Keys.{code}
+use Rattle.links.specs.Pairs.{segmentOf, admitted, saving, Seeds}
+use Rattle.links.specs.Tables.{records, waiting, next, prev, statAt, linked}
+use Rattle.links.proofs.Tables.{linked-length, linked-left, linked-gone, linked-next, linked-right, linked-prev, linked-stat, linked-stats}
 use Rattle.merge.specs.Rule.{pair, oneIf, without, best, pairsWith, afterJoins, laterOffers}
-use Rattle.merge.specs.Keys.{code}
-use Rattle.merge.specs.Pairs.{segmentOf, admitted, saving, Seeds}
-use Rattle.merge.specs.Tables.{records, waiting, next, prev, statAt, linked}
 use Rattle.merge.specs.Contracts.{Added, jointOf, leftIs, leftKey, rightIs, rightKey, Joining}
 use Rattle.merge.proofs.Cuts.{Meet, In, meet-left, meet-middle, meet-three, in-without, length-without, without-miss}
 use Rattle.merge.proofs.Joins.{join-step, later-step}
 use Rattle.merge.proofs.Links.{Linked, Joined, next-order, linked-before, linked-join}
 use Rattle.merge.proofs.Around.{around}
 use Rattle.merge.proofs.Queue.{Offer, top-is-best, stale, after-join}
-use Rattle.merge.proofs.Tables.{linked-length, linked-left, linked-gone, linked-next, linked-right, linked-prev, linked-stat, linked-stats}
 use Rattle.merge.proofs.Adds.{Has, added-as, added-kept, added-new, added-only, popped-top, popped-old, popped-kept}
 use Rattle.merge.proofs.State.{State, pair-here, pair-stats}
 

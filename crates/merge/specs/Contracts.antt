@@ -6,14 +6,14 @@ use mathlib.Core.List.{List, _∷_}
 use Prim.Native.Nat.{ℕ, _+_, _-_, _<_, _≤_}
 use lib.Dec.{ltb}
 use Rattle.model.specs.Tests.{both}
-use Rattle.cost.specs.declared.Stats.{Stats}
-use Rattle.cost.specs.Statistics.{Neighbours, joined}
+use Rattle.stats.specs.declared.Stats.{Stats}
+use Rattle.stats.specs.Statistics.{Neighbours, joined}
 use Rattle.queue.specs.Keys.{key, occ, one, Heap}
+use Rattle.links.specs.Links.{Chain, Cuts}
+use Rattle.links.specs.Keys.{code}
+use Rattle.links.specs.Pairs.{admits, saves, segmentOf, admitted, saving}
+use Rattle.links.specs.Tables.{records, waiting, next, prev, statAt, isLive, linked}
 use Rattle.merge.specs.Rule.{oneIf, pairs, merged, offers, cutsFrom}
-use Rattle.merge.specs.Links.{Chain, Cuts}
-use Rattle.merge.specs.Keys.{code}
-use Rattle.merge.specs.Pairs.{admits, saves, segmentOf, admitted, saving}
-use Rattle.merge.specs.Tables.{records, waiting, next, prev, statAt, isLive, linked}
 
 -- how often the key x is in the queue of q keys
 abbrev pub many : ℕ → List ℕ → ℕ → ℕ → ℕ
@@ -83,13 +83,6 @@ pub record Joining (n q l m r : ℕ) (w w′ : List ℕ) (c : ℕ) : Type 0 wher
 pub record Taken (n q l m r : ℕ) (w w′ : List ℕ) (c : ℕ) : Type 0 where
   pub live : isLive (records n w) l m r ≡ true → Joining n q l m r w w′ c
   pub stale : isLive (records n w) l m r ≡ false → (w′ ≡ w) × (c ≡ q)
-
--- each seed is a segment; t₀ are the records before
-pub record Started (n : ℕ) (t₀ t : List ℕ) : Type 0 where
-  pub ends : (x : ℕ) → x < n → next t x ≡ x + 1
-  pub end : next t n ≡ 0
-  pub backs : (x : ℕ) → x < n → prev t (x + 1) ≡ x
-  pub stats : (x : ℕ) → statAt t x ≡ statAt t₀ x
 
 -- of the first i neighbouring pairs of seeds, those that are admitted wait in the queue, and nothing else
 pub record Offering (f : ℕ → Stats) (n i : ℕ) (w : List ℕ) (q : ℕ) : Type 0 where

@@ -1,6 +1,2 @@
 pub mod Rule
-pub mod Links
-pub mod Keys
-pub mod Pairs
-pub mod Tables
 pub mod Contracts

@@ -12,10 +12,10 @@ use Rattle.model.specs.Tests.{pick}
 use Rattle.model.proofs.Tests.{pick-most}
 use Rattle.model.specs.Lists.{Rising}
 use Rattle.model.proofs.Rising.{rising-below}
-use Rattle.cost.specs.declared.Stats.{Stats}
-use Rattle.cost.specs.Statistics.{statsOf}
+use Rattle.stats.specs.declared.Stats.{Stats}
+use Rattle.stats.specs.Statistics.{statsOf}
+use Rattle.stats.proofs.Joining.{stats-sound}
 use Rattle.cost.specs.Forms.{orderOf, Over}
-use Rattle.cost.proofs.Joining.{stats-sound}
 use Rattle.planning.specs.Bodies.{segmentedForm}
 
 order-most : (tag : ℕ) → orderOf tag ≤ 5

@@ -6,13 +6,13 @@ use Prim.Native.Nat.{ℕ, suc, _+_, _-_, _*_, _<_, _≤_}
 use native.Mathlib.Omega.{arith}
 use lib.ListN.{length, length-append}
 use Rattle.model.specs.Lists.{positionsOf}
-use Rattle.cost.specs.Statistics.{statsOf}
+use Rattle.stats.specs.Statistics.{statsOf}
 use Rattle.model.proofs.Positions.{length-positions}
 use Rattle.model.proofs.Rising.{rising-wider}
 use Rattle.model.specs.Answers.{accepted, over}
 use Rattle.model.proofs.Sets.{sets-front}
-use Rattle.merge.specs.Tables.{records, statAt}
-use Rattle.merge.proofs.Tables.{records-stat}
+use Rattle.links.specs.Tables.{records, statAt}
+use Rattle.links.proofs.Tables.{records-stat}
 use Rattle.planning.specs.Segments.{between, segmentsOf}
 use Rattle.planning.specs.Bodies.{formFor, layoutBy, bodyOf}
 use Rattle.planning.specs.Refusals.{endsOf}

@@ -5,8 +5,8 @@ use mathlib.Core.List.{List}
 use Prim.Native.Nat.{ℕ, _*_, _-_, _<_, _≤_}
 use lib.ListN.{length}
 use Rattle.model.specs.Lists.{Rising}
-use Rattle.merge.specs.Tables.{records, statAt}
-use Rattle.merge.specs.Pairs.{Seeds}
+use Rattle.links.specs.Tables.{records, statAt}
+use Rattle.links.specs.Pairs.{Seeds}
 use Rattle.merge.specs.Contracts.{Merged, offersOf}
 use Rattle.planning.specs.Segments.{segmentsOf, offersFor}
 use Rattle.planning.specs.Bodies.{formFor}

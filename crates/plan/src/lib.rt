@@ -192,7 +192,7 @@ pub fn plan_rows(
     let n = early.seeds;
     let words = words_for(n);
     let r = planned_rows(start, end, rows, seeds, n, limit, &mut work[0..words], out);
-    merge::clear(work, n);
+    links::clear(work, n);
     r
 }
 
@@ -246,6 +246,6 @@ pub fn plan_ordinals(
     let windows = judged.seeds;
     let words = words_for(windows);
     let r = planned_ordinals(count, ordinals, windows, limit, &mut work[0..words], out);
-    merge::clear(work, windows);
+    links::clear(work, windows);
     r
 }

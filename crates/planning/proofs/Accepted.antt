@@ -11,7 +11,7 @@ use borrow.Author.Tests.{eq-eqb, ne-eqb}
 use Rattle.model.specs.Answers.{accepted, refused, over}
 use Rattle.model.proofs.Tests.{same-or-not, pick-true, pick-false}
 use Rattle.model.proofs.Writing.{over-take}
-use Rattle.cost.specs.Statistics.{statsOf}
+use Rattle.stats.specs.Statistics.{statsOf}
 use Rattle.cost.specs.Forms.{wholeForm}
 use Rattle.model.specs.Lists.{positionsOf}
 use Rattle.model.proofs.Positions.{length-positions}

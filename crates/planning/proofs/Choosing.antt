@@ -11,9 +11,9 @@ use lib.ListN.{length}
 use borrow.Author.Tests.{ne-eqb}
 use Rattle.model.specs.Tests.{pick}
 use Rattle.model.proofs.Tests.{either, pick-true, pick-false}
-use Rattle.cost.specs.declared.Stats.{Stats}
+use Rattle.stats.specs.declared.Stats.{Stats}
+use Rattle.stats.specs.Statistics.{statsOf}
 use Rattle.cost.specs.declared.Form.{Form}
-use Rattle.cost.specs.Statistics.{statsOf}
 use Rattle.cost.specs.Forms.{lex, denseForm, itemsForm, bitmapForm, wholeForm}
 use Rattle.cost.proofs.Least.{less-head}
 use Rattle.cost.proofs.Chosen.{Whole, dense, list32, list16, runs16, runs32, bitmap, trimmed-bitmap, missing, trimmed-missing, whole-chosen}

@@ -17,7 +17,7 @@ use Rattle.model.specs.Lists.{Rising, positionsOf}
 use Rattle.model.proofs.Rising.{rising-wider, rising-tests}
 use Rattle.model.proofs.Tests.{both-left, both-right, all-at, pick-true, pick-false, either}
 use Rattle.model.proofs.Writing.{over-take}
-use Rattle.cost.specs.Rows.{Covered}
+use Rattle.stats.specs.Rows.{Covered}
 use Rattle.model.proofs.Positions.{positions-rising}
 use Rattle.gather_core.specs.declared.Gatherer.{Gatherer}
 use Rattle.gather_core.specs.Gather.{rises, upAt, addedAll, addedAllTo, Counted}

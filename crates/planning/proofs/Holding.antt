@@ -7,13 +7,13 @@ use native.Mathlib.Omega.{arith}
 use lib.ListN.{length, take, drop}
 use lib.Seq.{take-at, drop-at}
 use Rattle.model.specs.Lists.{Rising}
-use Rattle.cost.specs.declared.Stats.{Stats}
-use Rattle.cost.specs.Statistics.{statsOf}
-use Rattle.merge.specs.Links.{Chain, link}
-use Rattle.merge.specs.Pairs.{Seeds}
-use Rattle.merge.specs.Tables.{records, next, statAt}
+use Rattle.stats.specs.declared.Stats.{Stats}
+use Rattle.stats.specs.Statistics.{statsOf}
+use Rattle.links.specs.Links.{Chain, link}
+use Rattle.links.specs.Pairs.{Seeds}
+use Rattle.links.specs.Tables.{records, next, statAt}
 use Rattle.merge.specs.Contracts.{offersOf, Merged}
-use Rattle.merge.proofs.Tables.{records-field, records-stat}
+use Rattle.links.proofs.Tables.{records-field, records-stat}
 use Rattle.merge.proofs.Rows.{segment-rows, cuts-rows, offers-rows, rows-seeds}
 use Rattle.planning.specs.Segments.{between, cutsLeft, offersFor, pieces, segmentsOf}
 use Rattle.planning.specs.Held.{Held, end, more}

@@ -12,16 +12,16 @@ use lib.ListN.{length, getD}
 use Rattle.model.specs.Tests.{flat}
 use Rattle.model.specs.Lists.{Rising, none, more, positionsOf}
 use Rattle.model.proofs.Rising.{rising-high, rising-wider}
-use Rattle.cost.specs.Statistics.{statsOf, spanOf}
-use Rattle.cost.proofs.Joining.{stats-append}
+use Rattle.stats.specs.Statistics.{statsOf, spanOf}
+use Rattle.stats.proofs.Joining.{stats-append}
 use Rattle.model.proofs.Positions.{length-positions, getD-positions}
 use Rattle.gather_core.specs.Seeds.{startOf, seedsFit}
 use Rattle.single.specs.Layout.{firstOf, extentOf}
 use Rattle.merge.specs.Rule.{without, cutsFrom, best, afterJoins, merged}
-use Rattle.merge.specs.Pairs.{rowsAdmitted, rowsSaving}
+use Rattle.links.specs.Pairs.{rowsAdmitted, rowsSaving}
 use Rattle.merge.proofs.Cuts.{Meet, meet-cases, meet-order, meet-three, without-hit, without-miss}
 use Rattle.merge.proofs.Joins.{by-choice, join-step, join-end, best-meets}
-use Rattle.merge.proofs.Segments.{admits-short}
+use Rattle.links.proofs.Segments.{admits-short}
 use Rattle.planning.specs.Segments.{part, between, cutsLeft, pieces, segmentsOf}
 use Rattle.planning.specs.Bodies.{segmentAt}
 use Rattle.planning.proofs.Dividing.{Divides, Divided, fit-divides, seed-near, part-length, part-at, start-inside, between-some, between-cut, between-whole, ahead, ahead-none, ahead-cut}

@@ -15,11 +15,11 @@ use Rattle.forms.specs.Forms.{localAccepts, localNames}
 use Rattle.forms.proofs.Laid.{LocalFits, fits-dense, fits-list, fits-runs, fits-bitmap, fits-missing, layout-accepts, layout-names}
 use Rattle.single.specs.Layout.{firstOf, extentOf}
 use Rattle.directory.specs.Directory.{isLocal}
-use Rattle.cost.specs.declared.Stats.{Stats}
+use Rattle.stats.specs.declared.Stats.{Stats}
+use Rattle.stats.specs.Statistics.{statsOf}
+use Rattle.stats.proofs.Joining.{reach}
 use Rattle.cost.specs.declared.Form.{Form}
-use Rattle.cost.specs.Statistics.{statsOf}
 use Rattle.cost.specs.Forms.{itemsForm, bitmapForm, denseForm, localForm}
-use Rattle.cost.proofs.Joining.{reach}
 use Rattle.cost.proofs.Layouts.{own-rising}
 use Rattle.cost.proofs.Chosen.{Local, dense, list, runs, missing, bitmap, local-chosen}
 use Rattle.cost.proofs.Stated.{stated-local, extent-span, own-is}

@@ -26,8 +26,8 @@ use Rattle.single.specs.Single.{view, fit, viewOf, bitmapView, trimmedMissingVi
 use Rattle.single.specs.Layout.{firstOf, extentOf, plainLayout, trimmedLayout, singleLayout}
 use Rattle.single.specs.declared.View.{View}
 use Rattle.bodies.specs.Bodies.{accepts, names}
+use Rattle.stats.specs.Statistics.{statsOf}
 use Rattle.cost.specs.declared.Form.{Form}
-use Rattle.cost.specs.Statistics.{statsOf}
 use Rattle.cost.specs.Forms.{denseForm, itemsForm, bitmapForm, wholeForm}
 use Rattle.model.proofs.Runs.{runs-most}
 use Rattle.cost.proofs.Chosen as cheapest

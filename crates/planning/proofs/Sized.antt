@@ -7,7 +7,7 @@ use native.Mathlib.Omega.{arith}
 use lib.ListN.{length}
 use Rattle.model.specs.Tests.{total}
 use Rattle.model.proofs.Sums.{total-front, total-same}
-use Rattle.cost.specs.Statistics.{statsOf}
+use Rattle.stats.specs.Statistics.{statsOf}
 use Rattle.cost.specs.Forms.{localForm}
 use Rattle.planning.specs.Segments.{statsEach}
 use Rattle.planning.specs.Bodies.{payloads, segmentedForm, segmentAt, entriesOf, segmentedLayout}

@@ -7,10 +7,10 @@ use lib.Dec.{eqb, leb}
 use lib.ListN.{length, getD}
 use Rattle.model.specs.Tests.{pick, flat}
 use Rattle.model.specs.Lists.{positionsOf}
-use Rattle.cost.specs.declared.Stats.{Stats}
+use Rattle.stats.specs.declared.Stats.{Stats}
+use Rattle.stats.specs.Statistics.{statsOf}
 use Rattle.cost.specs.declared.Form.{Form}
 use Rattle.cost.specs.Sizes.{depthOf}
-use Rattle.cost.specs.Statistics.{statsOf}
 use Rattle.cost.specs.Forms.{localForm, wholeForm, orderOf, lex}
 use Rattle.forms.specs.Forms.{localLayout}
 use Rattle.single.specs.Layout.{firstOf, extentOf, singleLayout}

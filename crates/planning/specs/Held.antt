@@ -4,8 +4,8 @@ use mathlib.Core.Path.{_≡_}
 use mathlib.Core.List.{List, [], _∷_, _++_}
 use Prim.Native.Nat.{ℕ, _<_, _≤_}
 use lib.ListN.{length}
-use Rattle.cost.specs.Statistics.{statsOf, spanOf}
-use Rattle.merge.specs.Tables.{next, statAt}
+use Rattle.stats.specs.Statistics.{statsOf, spanOf}
+use Rattle.links.specs.Tables.{next, statAt}
 
 -- from the cut x on the records lead through these segments of the rows xs up to the cut n; each has rows, a span of 16 bits, and its statistics in its record
 pub data Held (n : ℕ) (t : List ℕ) : ℕ → List ℕ → List (List ℕ) → Type 0 where

@@ -3,11 +3,11 @@
 use mathlib.Core.List.{List, [], _∷_}
 use Prim.Native.Nat.{ℕ, _-_}
 use lib.ListN.{length, take, drop}
-use Rattle.cost.specs.declared.Stats.{Stats}
-use Rattle.cost.specs.Statistics.{statsOf}
+use Rattle.stats.specs.declared.Stats.{Stats}
+use Rattle.stats.specs.Statistics.{statsOf}
 use Rattle.gather_core.specs.Seeds.{startOf}
 use Rattle.merge.specs.Rule.{merged, offers, cutsFrom}
-use Rattle.merge.specs.Pairs.{rowsAdmitted, rowsSaving}
+use Rattle.links.specs.Pairs.{rowsAdmitted, rowsSaving}
 
 -- the rows from index a up to index b
 unfoldable pub part : List ℕ → ℕ → ℕ → List ℕ

@@ -10,14 +10,14 @@ use lib.ListN.{length, getD, take, drop}
 use Rattle.model.specs.Lists.{positionsOf}
 use Rattle.model.proofs.Tests.{last-or-before}
 use Rattle.model.proofs.Rising.{rising-take, rising-drop}
-use Rattle.cost.specs.declared.Stats.{Stats}
-use Rattle.cost.specs.Statistics.{statsOf}
-use Rattle.cost.specs.Rows.{Covered}
+use Rattle.stats.specs.declared.Stats.{Stats}
+use Rattle.stats.specs.Statistics.{statsOf}
+use Rattle.stats.specs.Rows.{Covered}
 use Rattle.model.proofs.Positions.{positions-take, positions-drop}
-use Rattle.cost.proofs.Positions.{covered-few}
+use Rattle.stats.proofs.Positions.{covered-few}
 use Rattle.gather_core.specs.Seeds.{startOf, windows}
-use Rattle.merge.specs.Tables.{putStat}
-use Rattle.merge.proofs.Tables.{stat-length, stat-here, stat-other}
+use Rattle.links.specs.Tables.{putStat}
+use Rattle.links.proofs.Tables.{stat-length, stat-here, stat-other}
 use Rattle.planning.specs.Refusals.{endsOf}
 use Rattle.planning.specs.Segments.{part, between}
 use Rattle.planning.proofs.Dividing.{part-length}

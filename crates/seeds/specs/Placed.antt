@@ -5,11 +5,11 @@ use mathlib.Core.Bool.{true}
 use mathlib.Core.List.{List}
 use Prim.Native.Nat.{ℕ, suc, _<_, _≤_}
 use lib.ListN.{length}
-use Rattle.cost.specs.Statistics.{statsOf}
+use Rattle.stats.specs.Statistics.{statsOf}
 use Rattle.model.specs.Lists.{positionsOf}
-use Rattle.cost.specs.Rows.{Covered}
+use Rattle.stats.specs.Rows.{Covered}
 use Rattle.gather_core.specs.Seeds.{startOf}
-use Rattle.merge.specs.Tables.{base, statAt}
+use Rattle.links.specs.Tables.{base, statAt}
 use Rattle.planning.specs.Refusals.{givenFit, endsOf}
 use Rattle.planning.specs.Segments.{between}
 

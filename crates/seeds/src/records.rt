@@ -3,7 +3,7 @@ ghost use mathlib.Core.Path.{_≡_};
 ghost use mathlib.Core.List.{[]};
 ghost use Prim.Native.Nat.{_<_};
 ghost use lib.ListN.{length, getD};
-ghost use Rattle.cost.specs.Statistics.{statsOf};
+ghost use Rattle.stats.specs.Statistics.{statsOf};
 ghost use Rattle.model.specs.Lists.{positionsOf};
 ghost use Rattle.planning.specs.Refusals.{endsOf};
 ghost use Rattle.planning.specs.Segments.{part};
@@ -55,19 +55,19 @@ fn seed_end(rows: &[u64], seeds: &[u16], i: usize, a: usize) -> usize
 }
 
 // The statistics of the rows from index a up to index b.
-fn part_stats(rows: &[u64], a: usize, b: usize, start: u64) -> cost::Stats
+fn part_stats(rows: &[u64], a: usize, b: usize, start: u64) -> stats::Stats
     requires { ⌜ Ranged start (now rows) a b ⌝ }
     ensures { λ r. ⌜ r ≡ statsOf (part (positionsOf start (now (rows .entry))) a b) ⌝ }
 {
-    cost::rows_stats(&rows[a..b], start)
+    stats::rows_stats(&rows[a..b], start)
 }
 
 // The same of ordinals.
-fn part_stats16(ordinals: &[u16], a: usize, b: usize) -> cost::Stats
+fn part_stats16(ordinals: &[u16], a: usize, b: usize) -> stats::Stats
     requires { ⌜ Ranged 0 (now ordinals) a b ⌝ }
     ensures { λ r. ⌜ r ≡ statsOf (part (positionsOf 0 (now (ordinals .entry))) a b) ⌝ }
 {
-    cost::ordinals_stats(&ordinals[a..b])
+    stats::ordinals_stats(&ordinals[a..b])
 }
 
 // Puts the statistics of each seed in its record.
@@ -79,7 +79,7 @@ pub fn put_rows(w: &mut [u32], rows: &[u64], seeds: &[u16], start: u64, n: usize
     let mut i = 0;
     while i < n {
         let b = seed_end(rows, seeds, i, a);
-        merge::put_segment(w, i, part_stats(rows, a, b, start));
+        links::put_segment(w, i, part_stats(rows, a, b, start));
         a = b;
         i += 1;
     }
@@ -94,7 +94,7 @@ pub fn put_ordinals(w: &mut [u32], ordinals: &[u16], n: usize)
     let mut i = 0;
     while i < n {
         let b = window_end16(ordinals, a);
-        merge::put_segment(w, i, part_stats16(ordinals, a, b));
+        links::put_segment(w, i, part_stats16(ordinals, a, b));
         a = b;
         i += 1;
     }

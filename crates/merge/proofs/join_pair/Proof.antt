@@ -1,7 +1,7 @@
 -- `merge::join_pair` meets its contract: the records after the join give the two offers what they ask.
 -- Assumes nothing.
 use borrow.Author.Needs.{needs}
-use Rattle.merge.proofs.Tables.{read-neighbours}
+use Rattle.links.proofs.Tables.{read-neighbours}
 use Rattle.merge.proofs.Steps.{Linking, linking, left-asks, right-asks}
 use Rattle.merge.proofs.join_pair.Statement.{statement}
 use Rattle.merge.proofs.join_pair.Tie as tie

@@ -5,9 +5,9 @@ use mathlib.Core.Path.{_≡_, refl, sym, subst, _∙_}
 use mathlib.Core.List.{List}
 use native.Mathlib.Omega.{arith}
 use lib.ListN.{length}
-use Rattle.cost.specs.declared.Stats.{Stats}
-use Rattle.merge.specs.Pairs.{Seeds}
-use Rattle.merge.specs.Tables.{records, waiting, statAt}
+use Rattle.stats.specs.declared.Stats.{Stats}
+use Rattle.links.specs.Pairs.{Seeds}
+use Rattle.links.specs.Tables.{records, waiting, statAt}
 use Rattle.merge.specs.Contracts.{Offering, Merged, offersOf}
 use Rattle.merge.proofs.State.{State, state-most}
 use Rattle.merge.proofs.Begin.{begin, seeded, stats-kept}

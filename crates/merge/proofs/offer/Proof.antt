@@ -3,9 +3,9 @@
 use mathlib.Core.Path.{_≡_, sym, _∙_}
 use native.Mathlib.Omega.{arith}
 use borrow.Author.Needs.{needs}
-use Rattle.cost.specs.Statistics.{Neighbours}
-use Rattle.merge.specs.Tables.{records, statAt}
-use Rattle.merge.proofs.Tables.{read-pair, read-neighbours}
+use Rattle.stats.specs.Statistics.{Neighbours}
+use Rattle.links.specs.Tables.{records, statAt}
+use Rattle.links.proofs.Tables.{read-pair, read-neighbours}
 use Rattle.merge.proofs.Adds.{offered-yes, offered-no}
 use Rattle.merge.proofs.offer.Statement.{statement}
 use Rattle.merge.proofs.offer.Tie as tie

@@ -4,9 +4,9 @@ use Prim.Native.Nat.{ℕ, _+_, _-_, _≤_}
 use mathlib.Core.Path.{_≡_, refl, subst, _∙_}
 use native.Mathlib.Omega.{arith}
 use lib.ListN.{length}
-use Rattle.merge.specs.Tables.{records, statAt}
+use Rattle.links.specs.Tables.{records, statAt}
+use Rattle.links.proofs.Segments.{seeds-neighbours}
 use Rattle.merge.specs.Contracts.{Offering}
-use Rattle.merge.proofs.Segments.{seeds-neighbours}
 use Rattle.merge.proofs.Begin.{offering-none, offering-more}
 use Rattle.merge.proofs.offer_all.Statement.{statement}
 use Rattle.merge.proofs.offer_all.Tie as tie

@@ -3,7 +3,7 @@
 use mathlib.Core.Path.{_∙_}
 use native.Mathlib.Omega.{arith}
 use borrow.Author.Needs.{needs}
-use Rattle.merge.proofs.Tables.{records-field}
+use Rattle.links.proofs.Tables.{records-field}
 use Rattle.merge.proofs.Adds.{added-left, added-none}
 use Rattle.merge.proofs.Steps.{left-reads}
 use Rattle.merge.proofs.offer_left.Statement.{statement}

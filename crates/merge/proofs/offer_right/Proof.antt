@@ -3,8 +3,8 @@
 use mathlib.Core.Path.{_≡_, _∙_}
 use native.Mathlib.Omega.{arith}
 use borrow.Author.Needs.{needs}
-use Rattle.merge.specs.Tables.{records, next}
-use Rattle.merge.proofs.Tables.{records-field}
+use Rattle.links.specs.Tables.{records, next}
+use Rattle.links.proofs.Tables.{records-field}
 use Rattle.merge.proofs.Adds.{added-right, added-none}
 use Rattle.merge.proofs.Steps.{right-reads}
 use Rattle.merge.proofs.offer_right.Statement.{statement}

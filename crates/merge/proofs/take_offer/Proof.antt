@@ -4,8 +4,8 @@ use mathlib.Core.Path.{_≡_, refl}
 use mathlib.Core.Bool.{Bool}
 use borrow.Author.Needs.{needs}
 use Rattle.model.proofs.Tests.{never}
-use Rattle.merge.specs.Tables.{records, isLive}
-use Rattle.merge.proofs.Tables.{read-live}
+use Rattle.links.specs.Tables.{records, isLive}
+use Rattle.links.proofs.Tables.{read-live}
 use Rattle.merge.proofs.take_offer.Statement.{statement}
 use Rattle.merge.proofs.take_offer.Tie as tie
 

@@ -5,7 +5,7 @@ use native.Mathlib.Omega.{arith}
 use borrow.Author.Needs.{needs}
 use borrow.Author.Tests.{ne-eqb}
 use Rattle.model.specs.Tests.{pick}
-use Rattle.cost.specs.Statistics.{holesOf}
+use Rattle.stats.specs.Statistics.{holesOf}
 use Rattle.cost.specs.Forms.{least, localForm, localOffers}
 use Rattle.cost.proofs.Least.{dense-local}
 use Rattle.cost.proofs.choice.local_form.Statement.{statement}

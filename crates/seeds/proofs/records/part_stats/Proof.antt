@@ -2,7 +2,7 @@
 -- Assumes nothing.
 use mathlib.Core.Path.{ap, _∙_}
 use borrow.Author.Needs.{needs}
-use Rattle.cost.specs.Statistics.{statsOf}
+use Rattle.stats.specs.Statistics.{statsOf}
 use Rattle.seeds.proofs.Placing.{part-covered, part-positions}
 use Rattle.seeds.proofs.records.part_stats.Statement.{statement}
 use Rattle.seeds.proofs.records.part_stats.Tie as tie

@@ -2,7 +2,7 @@
 -- Assumes nothing.
 use mathlib.Core.Path.{sym, ap, _∙_}
 use borrow.Author.Needs.{needs}
-use Rattle.cost.specs.Statistics.{statsOf}
+use Rattle.stats.specs.Statistics.{statsOf}
 use Rattle.model.proofs.Positions.{positions-zero}
 use Rattle.seeds.proofs.Placing.{part-few, part-positions}
 use Rattle.seeds.proofs.records.part_stats16.Statement.{statement}

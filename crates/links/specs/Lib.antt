@@ -1,0 +1,4 @@
+pub mod Links
+pub mod Keys
+pub mod Pairs
+pub mod Tables
