@@ -6,12 +6,13 @@ use super::direct::{Set, gather_singly};
 use super::inputs::{Input, for_merging, runs};
 use super::meter::Meter;
 use super::planning::{PAGE, plan};
-use super::ratios::{digits, told};
+use super::ratios::{ROUNDS, digits, told};
 use super::subject::QUESTIONS;
 use super::{begin, end, head, progress};
 use crate::case::Case;
 use crate::index::original::{Accepted, Seeds, row_ids};
 use crate::random::Random;
+use std::array::from_fn;
 use std::hint::black_box;
 
 const ROWS: [usize; 4] = [1_000, 4_000, 16_000, 65_535];
@@ -48,7 +49,11 @@ pub(super) fn tables() {
     let names = RUNS.map(name);
     let columns = ["gathering single rows"].into_iter().chain(names.iter().map(String::as_str));
     head(&columns.collect::<Vec<_>>());
-    let pairs = RUNS.map(single_rows);
+    let round = || RUNS.map(single_rows);
+    let pairs = (1..ROUNDS).fold(round(), |before, _| {
+        let now = round();
+        from_fn(|at| before[at].least(now[at]))
+    });
     println!("| ns to a row | {} |", pairs.map(told).join(" | "));
     println!("| ratio | {} |", pairs.map(|pair| format!("{:.2}", pair.ratio())).join(" | "));
     end("growth-runs");
@@ -59,13 +64,11 @@ pub(super) fn tables() {
 fn single_rows(length: u64) -> Pair {
     let rows: Vec<u64> = runs(60_000 / length, 100_000, length).collect();
     let (ids, mut table) = (row_ids(&rows), vec![1; rows.len()]);
-    let mut once = || {
-        turns(
-            || gather_singly(black_box(&rows), black_box(&mut table)),
-            || Seeds::singly(black_box(&ids)),
-        )
-    };
-    once().least(once()).least(once()).each(rows.len())
+    let least = turns(
+        || gather_singly(black_box(&rows), black_box(&mut table)),
+        || Seeds::singly(black_box(&ids)),
+    );
+    least.each(rows.len())
 }
 
 /// The least of three measurements.

@@ -7,7 +7,7 @@ use super::subject::Subject;
 use super::{begin, deletions, end, head, planning, progress, reading};
 
 /// How often the table is measured; the least of all is kept.
-const ROUNDS: usize = 6;
+pub(super) const ROUNDS: usize = 6;
 
 /// A call that is measured, in what it is told, and at most which ratio is asked for.
 pub(super) struct Line {
