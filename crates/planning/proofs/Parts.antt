@@ -1,4 +1,4 @@
--- One segment: its cheapest local form takes its rows, counted from its first, and reads them back.
+-- One segment: its cheapest local form takes its rows, counted from its first.
 -- Assumes nothing.
 use mathlib.Core.Path.{_≡_, refl, sym}
 use mathlib.Core.Bool.{true}
@@ -6,13 +6,14 @@ use mathlib.Core.List.{List}
 use Prim.Native.Nat.{ℕ, suc, _+_, _-_, _<_, _≤_}
 use native.Mathlib.Omega.{arith}
 use lib.ListN.{length, getD}
+use borrow.Author.Tests.{eqb-true}
 use Rattle.model.specs.Tests.{pick}
 use Rattle.model.specs.Lists.{Rising, shift, positionsOf}
 use Rattle.model.proofs.Rising.{rising-room, rising-wider, rising-ends}
 use Rattle.model.proofs.Positions.{length-positions, positions-back}
 use Rattle.model.proofs.Counted.{Count}
-use Rattle.forms.specs.Forms.{localAccepts, localNames}
-use Rattle.forms.proofs.Laid.{LocalFits, fits-dense, fits-list, fits-runs, fits-bitmap, fits-missing, layout-accepts, layout-names}
+use Rattle.forms.specs.Forms.{byTag, localShaped}
+use Rattle.forms.proofs.Laid.{LocalFits, fits-dense, fits-list, fits-runs, fits-bitmap, fits-missing}
 use Rattle.single.specs.Layout.{firstOf, extentOf}
 use Rattle.directory.specs.Directory.{isLocal}
 use Rattle.stats.specs.declared.Stats.{Stats}
@@ -65,7 +66,7 @@ module _ {a b : ℕ} {seg : List ℕ} (r : Rising a b seg) (some : 1 ≤ length 
   pub own-count : length seg ≤ 65535 → Count (extentOf seg) (length seg)
   own-count few = record { some = some; within = omega (arith, rising-room (omega arith) own-rises, length-positions (firstOf seg) seg); most = few }
 
-  -- ---- what the form takes and gives back
+  -- ---- what the form takes
 
   module _ (few : length seg ≤ 65535) (narrow : extentOf seg ≤ 65535) where
     -- what every form asks
@@ -90,10 +91,7 @@ module _ {a b : ℕ} {seg : List ℕ} (r : Rising a b seg) (some : 1 ≤ length 
     unfolding tagOf
     own-fits = each-fits (localForm (statsOf seg)) (local-chosen (statsOf seg))
 
-    pub payload-accepts : localAccepts (tagOf seg) (payloadOf seg) (extentOf seg) (length seg) ≡ true
-    unfolding payloadOf
-    payload-accepts = rw (length-positions (firstOf seg) seg) at (layout-accepts own-fits)
-
-    pub payload-names : localNames (tagOf seg) (payloadOf seg) (extentOf seg) (length seg) ≡ positionsOf (firstOf seg) seg
-    unfolding payloadOf
-    payload-names = rw (length-positions (firstOf seg) seg) at (layout-names own-fits)
+    -- where the form is dense every position is a row
+    pub own-full : tagOf seg ≡ 1 → length (positionsOf (firstOf seg) seg) ≡ extentOf seg
+    unfolding localShaped byTag pick
+    own-full e = eqb-true _ _ (rw e at (own-fits .shaped))

@@ -104,11 +104,11 @@ module _ {span n : ℕ} {at : ℕ → Segment} (wide : span ≤ 4294967295) (c :
       rw (ap (λ (t : stated.Segment). t .tag) e, payload-laid (entriesFor at) n (λ (j : ℕ). payload (at j)) small (λ j h. refl) i l, ap (λ (t : stated.Segment). t .span) e, ap (λ (t : stated.Segment). t .count) e)
 
   part-accepted : (i : ℕ) → i < n → partAccepts (cutLayout at n) i ≡ true
-  unfolding partAccepts payload
+  unfolding partAccepts
   part-accepted i l = as-laid localAccepts i l ∙ layout-accepts (fits i l)
 
   part-named : (i : ℕ) → i < n → partNames (cutLayout at n) i ≡ at i .own
-  unfolding partNames payload
+  unfolding partNames
   part-named i l = as-laid localNames i l ∙ layout-names (fits i l)
 
   sizes : length (flat (λ (i : ℕ). payload (at i)) n) ≡ total (entriesFor at .size) n

@@ -65,7 +65,7 @@ module _ (span : ℕ) (xs : List ℕ) (ok : segmentedAccepts span xs ≡ true) (
   -- ---- what an entry states is so of its part
 
   part-layout : (i : ℕ) → i < n → partOf xs i ≡ payload (at i)
-  unfolding payload partAccepts partNames
+  unfolding partAccepts partNames
   part-layout i l = local-layout (tagAt xs i) (partOf xs i) (spanAt xs i) (countAt xs i) (accepted-parts span xs ok i l) (part-bytes span xs ok bytes i)
 
   count-is : (i : ℕ) → i < n → countAt xs i ≡ counts i

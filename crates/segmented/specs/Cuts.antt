@@ -20,7 +20,7 @@ pub record Segment : Type 0 where
   pub own : List ℕ
 
 -- its payload
-unfoldable pub payload : Segment → List ℕ
+abbrev pub payload : Segment → List ℕ
 payload s = localLayout (s .tag) (s .span) (s .own)
 
 -- it lies within the span, its own span is a u16, its tag is 1, 3, 4, 6 or 7, a dense one has every position, and its length is a u16
