@@ -1,17 +1,18 @@
 -- One segment: its cheapest local form takes its rows, counted from its first, and reads them back.
 -- Assumes nothing.
 use mathlib.Core.Path.{_≡_, refl, sym}
-use mathlib.Core.Bool.{true}
+use mathlib.Core.Bool.{true, false}
 use mathlib.Core.List.{List}
 use Prim.Native.Nat.{ℕ, suc, _+_, _-_, _<_, _≤_}
 use native.Mathlib.Omega.{arith}
 use lib.ListN.{length, getD}
+use Rattle.fields.specs.Le.{widthOf}
 use Rattle.model.specs.Tests.{pick}
 use Rattle.model.specs.Lists.{Rising, shift, positionsOf}
 use Rattle.model.proofs.Rising.{rising-room, rising-wider, rising-ends}
 use Rattle.model.proofs.Positions.{length-positions, positions-back}
 use Rattle.model.proofs.Counted.{Count}
-use Rattle.forms.specs.Forms.{localAccepts, localNames}
+use Rattle.forms.specs.Forms.{listTag, runsTag, localAccepts, localNames}
 use Rattle.forms.proofs.Laid.{LocalFits, fits-dense, fits-list, fits-runs, fits-bitmap, fits-missing, layout-accepts, layout-names}
 use Rattle.single.specs.Layout.{firstOf, extentOf}
 use Rattle.directory.specs.Directory.{isLocal}
@@ -79,10 +80,10 @@ module _ {a b : ℕ} {seg : List ℕ} (r : Rising a b seg) (some : 1 ≤ length 
     own-narrow = rising-wider (omega arith) (omega arith) own-rises
 
     each-fits : (f : Form) → Local (statsOf seg) f → LocalFits (f .tag) (extentOf seg) (positionsOf (firstOf seg) seg)
-    unfolding denseForm itemsForm bitmapForm statsOf
+    unfolding denseForm itemsForm bitmapForm statsOf listTag runsTag widthOf
     each-fits _ (dense e) = fits-dense own-rises own-some own-few (omega (arith, extent-span seg r some, own-count few .within, length-positions (firstOf seg) seg))
-    each-fits _ list = fits-list own-rises own-some own-few own-narrow
-    each-fits _ runs = fits-runs own-rises own-some own-few own-narrow
+    each-fits _ list = fits-list own-rises own-some own-few false own-narrow
+    each-fits _ runs = fits-runs own-rises own-some own-few false own-narrow
     each-fits _ missing = fits-missing own-rises own-some own-few narrow
     each-fits _ bitmap = fits-bitmap own-rises own-some own-few
 
