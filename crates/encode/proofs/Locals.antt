@@ -1,7 +1,7 @@
 -- The local layouts by tag.
 -- Assumes nothing.
 use mathlib.Core.Path.{_≡_, _∙_}
-use mathlib.Core.Bool.{true, false}
+use mathlib.Core.Bool.{Bool}
 use mathlib.Core.List.{List, []}
 use Prim.Native.Nat.{ℕ, _+_, _≤_}
 use mathlib.Core.Logic.{⊎-elim}
@@ -21,24 +21,15 @@ use Rattle.bitmap.specs.Body.{bitmapLayout, bitmapLength}
 use Rattle.bitmap.proofs.Laying.{laid-length}
 use Rattle.emit.specs.Written.{Written}
 use Rattle.emit.proofs.Passing.{positions-below}
-use Rattle.forms.specs.Forms.{localLayout, byTag}
+use Rattle.forms.specs.Forms.{listTag, runsTag, byTag, localLayout}
+use Rattle.forms.proofs.Laid.{list-layout, runs-layout}
 
 module _ {tag : ℕ} (span : ℕ) (rows : List ℕ) where
-  pub local-list32 : tag ≡ 2 → localLayout tag span rows ≡ listLayout (widthOf true) rows
-  unfolding localLayout byTag pick widthOf
-  local-list32 e = rw e
+  pub local-list : (wide : Bool) → tag ≡ listTag wide → localLayout tag span rows ≡ listLayout (widthOf wide) rows
+  local-list wide e = rw e (list-layout wide span rows)
 
-  pub local-list16 : tag ≡ 3 → localLayout tag span rows ≡ listLayout (widthOf false) rows
-  unfolding localLayout byTag pick widthOf
-  local-list16 e = rw e
-
-  pub local-runs16 : tag ≡ 4 → localLayout tag span rows ≡ runsLayout (widthOf false) rows
-  unfolding localLayout byTag pick widthOf
-  local-runs16 e = rw e
-
-  pub local-runs32 : tag ≡ 5 → localLayout tag span rows ≡ runsLayout (widthOf true) rows
-  unfolding localLayout byTag pick widthOf
-  local-runs32 e = rw e
+  pub local-runs : (wide : Bool) → tag ≡ runsTag wide → localLayout tag span rows ≡ runsLayout (widthOf wide) rows
+  local-runs wide e = rw e (runs-layout wide span rows)
 
   pub local-bitmap : tag ≡ 6 → localLayout tag span rows ≡ bitmapLayout span rows
   unfolding localLayout byTag pick

@@ -16,61 +16,118 @@ use Rattle.runs.specs.Asked.{runsPlace, runsSelect, runsWalk}
 use Rattle.bitmap.specs.Body.{bitmapAccepts, bitmapNames, bitmapLayout, bitmapLength}
 use Rattle.bitmap.specs.Reading.{bitmapPlace, bitmapSelect, bitmapWalk}
 
--- one of seven by the tag, else the last
-unfoldable pub byTag : {A : Type 0} → ℕ → A → A → A → A → A → A → A → A → A
-byTag tag dense list32 list16 runs16 runs32 bitmap missing other =
-    pick (eqb tag 1) dense
-    (pick (eqb tag 2) list32
-    (pick (eqb tag 3) list16 (pick (eqb tag 4) runs16 (pick (eqb tag 5) runs32 (pick (eqb tag 6) bitmap (pick (eqb tag 7) missing other))))))
+-- the tags of a list and of runs, by whether a field has 32 bits or 16
+unfoldable pub listTag : Bool → ℕ
+listTag true = 2
+listTag false = 3
+
+unfoldable pub runsTag : Bool → ℕ
+runsTag true = 5
+runsTag false = 4
+
+-- what stands for each form, for a list and runs by the bytes of a field, and for every other tag
+pub record Cases (A : Type 0) : Type 0 where
+  pub dense : A
+  pub list : ℕ → A
+  pub runs : ℕ → A
+  pub bitmap : A
+  pub missing : A
+  pub other : A
+
+unfoldable pub byTag : {A : Type 0} → ℕ → Cases A → A
+byTag tag cases =
+    pick (eqb tag 1) (cases .dense)
+    (pick (eqb tag 2) (cases .list 4)
+    (pick (eqb tag 3) (cases .list 2)
+    (pick (eqb tag 4) (cases .runs 2)
+    (pick (eqb tag 5) (cases .runs 4)
+    (pick (eqb tag 6) (cases .bitmap)
+    (pick (eqb tag 7) (cases .missing)
+    (cases .other)))))))
 
 -- ---- bytes to rows and back
 
 -- which bytes are accepted over a span, with a stated count
 unfoldable pub localAccepts : ℕ → List ℕ → ℕ → ℕ → Bool
-localAccepts tag xs span n =
-    byTag tag (denseAccepts xs span n) (listAccepts 4 xs span n) (listAccepts 2 xs span n) (runsAccepts 2 xs span n) (runsAccepts 4 xs span n)
-    (bitmapAccepts xs span n) (missingAccepts xs span n) false
+localAccepts tag xs span n = byTag tag (record {
+  dense = denseAccepts xs span n;
+  list = λ w. listAccepts w xs span n;
+  runs = λ w. runsAccepts w xs span n;
+  bitmap = bitmapAccepts xs span n;
+  missing = missingAccepts xs span n;
+  other = false;
+})
 
 -- the positions that they name
 unfoldable pub localNames : ℕ → List ℕ → ℕ → ℕ → List ℕ
-localNames tag xs span n =
-    byTag tag (denseNames n) (listNames 4 xs n) (listNames 2 xs n) (runsNames 2 xs (runCount 2 xs)) (runsNames 4 xs (runCount 4 xs))
-    (bitmapNames xs span) (missingNames xs span (span - n)) []
+localNames tag xs span n = byTag tag (record {
+  dense = denseNames n;
+  list = λ w. listNames w xs n;
+  runs = λ w. runsNames w xs (runCount w xs);
+  bitmap = bitmapNames xs span;
+  missing = missingNames xs span (span - n);
+  other = [];
+})
 
 -- the bytes of a rising list of positions below the span
 unfoldable pub localLayout : ℕ → ℕ → List ℕ → List ℕ
-localLayout tag span rows =
-    byTag tag [] (listLayout 4 rows) (listLayout 2 rows) (runsLayout 2 rows) (runsLayout 4 rows) (bitmapLayout span rows) (missingLayout span rows) []
+localLayout tag span rows = byTag tag (record {
+  dense = [];
+  list = λ w. listLayout w rows;
+  runs = λ w. runsLayout w rows;
+  bitmap = bitmapLayout span rows;
+  missing = missingLayout span rows;
+  other = [];
+})
 
 -- what a list must be for a tag: it has 1 to 65535 positions, rises below this end, and is as many of the span as the form wants.
 -- A list and runs hold no position that their fields do not hold, and no list is below the end 0 of a tag that is no local form's
 unfoldable pub localEnd : ℕ → ℕ → ℕ
-localEnd tag span = byTag tag span (mostOf 4 span) (mostOf 2 span) (mostOf 2 span) (mostOf 4 span) span span 0
+localEnd tag span = byTag tag (record { dense = span; list = λ w. mostOf w span; runs = λ w. mostOf w span; bitmap = span; missing = span; other = 0 })
 
 unfoldable pub localShaped : ℕ → ℕ → ℕ → Bool
-localShaped tag span n = byTag tag (eqb n span) true true true true true (leb span 65535) false
+localShaped tag span n = byTag tag (record { dense = eqb n span; list = λ w. true; runs = λ w. true; bitmap = true; missing = leb span 65535; other = false })
 
 -- ---- the answers on any bytes of the right length
 
 -- the lengths at which the readers find what they read inside: an accepted body has them
 unfoldable pub localSized : ℕ → ℕ → ℕ → ℕ → Bool
-localSized tag size span n =
-    byTag tag true (eqb size (n * 4)) (eqb size (n * 2)) true true (eqb size (bitmapLength span))
-    (both (leb span 65535) (both (leb n span) (eqb size ((span - n) * 2)))) true
+localSized tag size span n = byTag tag (record {
+  dense = true;
+  list = λ w. eqb size (n * w);
+  runs = λ w. true;
+  bitmap = eqb size (bitmapLength span);
+  missing = both (leb span 65535) (both (leb n span) (eqb size ((span - n) * 2)));
+  other = true;
+})
 
 unfoldable pub localPlace : ℕ → List ℕ → ℕ → ℕ → ℕ → Place
-localPlace tag xs span n p =
-    byTag tag (placeOf (denseNames span) p) (listPlace 4 xs n p) (listPlace 2 xs n p) (runsPlace 2 xs (runCount 2 xs) p) (runsPlace 4 xs (runCount 4 xs) p)
-    (bitmapPlace xs span n p) (missingPlace xs span (span - n) p) (record { below = 0; present = false })
+localPlace tag xs span n p = byTag tag (record {
+  dense = placeOf (denseNames span) p;
+  list = λ w. listPlace w xs n p;
+  runs = λ w. runsPlace w xs (runCount w xs) p;
+  bitmap = bitmapPlace xs span n p;
+  missing = missingPlace xs span (span - n) p;
+  other = record { below = 0; present = false };
+})
 
 unfoldable pub localSelect : ℕ → List ℕ → ℕ → ℕ → ℕ → ℕ
-localSelect tag xs span n k =
-    byTag tag k (item 4 xs k) (item 2 xs k) (runsSelect 2 xs (runCount 2 xs) k) (runsSelect 4 xs (runCount 4 xs) k)
-    (bitmapSelect xs span k) (missingSelect xs (span - n) k) 0
+localSelect tag xs span n k = byTag tag (record {
+  dense = k;
+  list = λ w. item w xs k;
+  runs = λ w. runsSelect w xs (runCount w xs) k;
+  bitmap = bitmapSelect xs span k;
+  missing = missingSelect xs (span - n) k;
+  other = 0;
+})
 
 -- what a walk writes from ordinal k on, counted from base, where there is room for so many
 unfoldable pub localWalk : ℕ → List ℕ → ℕ → ℕ → ℕ → ℕ → ℕ → List ℕ
-localWalk tag xs span n k base room =
-    byTag tag (moved base (walkOf (denseNames n) k room)) (moved base (walkOf (listNames 4 xs n) k room)) (moved base (walkOf (listNames 2 xs n) k room))
-    (runsWalk 2 xs (runCount 2 xs) k base room) (runsWalk 4 xs (runCount 4 xs) k base room)
-    (bitmapWalk xs span k base room) (moved base (take room (missingFrom xs span (span - n) k))) []
+localWalk tag xs span n k base room = byTag tag (record {
+  dense = moved base (walkOf (denseNames n) k room);
+  list = λ w. moved base (walkOf (listNames w xs n) k room);
+  runs = λ w. runsWalk w xs (runCount w xs) k base room;
+  bitmap = bitmapWalk xs span k base room;
+  missing = moved base (take room (missingFrom xs span (span - n) k));
+  other = [];
+})

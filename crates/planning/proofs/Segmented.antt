@@ -20,7 +20,8 @@ use Rattle.directory.proofs.LaidOut.{length-layout}
 use Rattle.segmented.specs.Segmented.{segmentedAccepts, segmentedNames}
 use Rattle.segmented.specs.Cuts.{Segment, payload, entriesFor, cutLayout, cutRows, SegmentFits, CutFits}
 use Rattle.segmented.proofs.CutOut.{cut-accepted, cut-named}
-use Rattle.bodies.specs.Bodies.{accepts, names}
+use Rattle.bodies.specs.Bodies.{Holds}
+use Rattle.bodies.proofs.Laws.{accepts-nine, names-nine}
 use Rattle.planning.specs.Bodies.{segmentAt, segmentOf, payloadOf, payloadAt, entriesOf, segmentedLayout}
 use Rattle.planning.proofs.Parts.{tag-local, extent-end, own-rises, own-back, own-full}
 
@@ -120,7 +121,7 @@ module _ {span : ℕ} {xs : List ℕ} {segs : List (List ℕ)} (s : Segs span xs
           narrow = s .narrow i l;
           held = record { rising = own-rises (segment-rising i l) (s .each i l); some = omega (arith, s .each i l); most = omega (arith, segment-few i l) };
           local = tag-local (segmentAt segs i);
-          full = own-full (segment-rising i l) (s .each i l) (segment-few i l) (s .narrow i l);
+          full = own-full (segment-rising i l) (s .each i l) (segment-few i l);
           short = omega (arith, sizes-within i l);
         }
 
@@ -135,10 +136,10 @@ module _ {span : ℕ} {xs : List ℕ} {segs : List (List ℕ)} (s : Segs span xs
       offsets = λ i l. omega (arith, sizes-within i l);
     }
 
-    pub segmented-accepted : segmentedAccepts span (segmentedLayout segs) ≡ true
+    segmented-accepted : segmentedAccepts span (segmentedLayout segs) ≡ true
     segmented-accepted = rw as-cut (cut-accepted (s .wide) fits)
 
-    pub segmented-named : segmentedNames (segmentedLayout segs) ≡ xs
+    segmented-named : segmentedNames (segmentedLayout segs) ≡ xs
     unfolding cutRows
     segmented-named =
         ap segmentedNames as-cut ∙ cut-named (s .wide) fits
@@ -146,10 +147,5 @@ module _ {span : ℕ} {xs : List ℕ} {segs : List (List ℕ)} (s : Segs span xs
         ∙ s .whole
 
     -- of a whole body
-    pub body-accepted : accepts 9 span (segmentedLayout segs) ≡ true
-    unfolding accepts pick
-    body-accepted = segmented-accepted
-
-    pub body-named : names 9 span (segmentedLayout segs) ≡ xs
-    unfolding names pick
-    body-named = segmented-named
+    pub segmented-holds : Holds 9 span xs (segmentedLayout segs)
+    segmented-holds = record { accepted = accepts-nine 9 span (segmentedLayout segs) refl ∙ segmented-accepted; named = names-nine 9 span (segmentedLayout segs) refl ∙ segmented-named }

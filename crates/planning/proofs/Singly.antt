@@ -5,12 +5,12 @@ use mathlib.Core.Bool.{Bool, true, false, false≢true}
 use mathlib.Core.Logic.{⊎-elim}
 use mathlib.Core.List.{List, _++_}
 use Prim.Native.Nat.{ℕ, _+_, _-_, _*_, _/_, _^_, _<_, _≤_}
-use native.Mathlib.Nat.{mod-eq-of-lt}
+use native.Mathlib.Nat.{mod-eq-of-lt, mul-div-cancel}
 use native.Mathlib.Omega.{arith}
 use lib.Dec.{eqb}
 use lib.ListN.{length, getD, drop}
-use borrow.Author.Tests.{le-leb, eq-eqb}
-use Rattle.fields.specs.Le.{le, digits}
+use borrow.Author.Tests.{le-leb, eq-eqb, eqb-false}
+use Rattle.fields.specs.Le.{le, digits, widthOf}
 use Rattle.fields.proofs.Laws.{le-digits}
 use Rattle.model.specs.Tests.{both, pick}
 use Rattle.model.specs.Lists.{Rising, has, shift, runsOf, positionsOf}
@@ -19,13 +19,14 @@ use Rattle.model.proofs.Rising.{rising-below, rising-wider, rising-first, risin
 use Rattle.model.proofs.Standing.{has-at}
 use Rattle.model.proofs.Positions.{length-positions, getD-positions}
 use Rattle.model.proofs.Append.{shift-zero}
-use Rattle.lists.proofs.Bytes.{length-layout}
-use Rattle.forms.specs.Forms.{byTag, localAccepts, localLayout}
-use Rattle.forms.proofs.Laid.{LocalFits, layout-accepts, layout-names, fits-dense, fits-wide-list, fits-list, fits-runs, fits-wide-runs, fits-bitmap, fits-missing, runs-layout-length, wide-runs-layout-length}
+use Rattle.forms.specs.Forms.{listTag, runsTag, localAccepts, localLayout}
+use Rattle.forms.proofs.Laid.{LocalFits, layout-accepts, layout-names, fits-dense, fits-list, fits-runs, fits-bitmap, fits-missing, list-layout-length, runs-layout-length}
 use Rattle.single.specs.Single.{view, fit, viewOf, bitmapView, trimmedMissingView, fieldsOk, partIn, namedIn, endsOk, viewAccepts, singleAccepts, singleNames}
 use Rattle.single.specs.Layout.{firstOf, extentOf, plainLayout, trimmedLayout, singleLayout}
 use Rattle.single.specs.declared.View.{View}
-use Rattle.bodies.specs.Bodies.{accepts, names}
+use Rattle.single.proofs.Widths.{list-view, list-fields, list-plain, runs-view, runs-fields, runs-plain}
+use Rattle.bodies.specs.Bodies.{Holds}
+use Rattle.bodies.proofs.Laws.{accepts-other, names-other}
 use Rattle.stats.specs.Statistics.{statsOf}
 use Rattle.cost.specs.declared.Form.{Form}
 use Rattle.cost.specs.Forms.{denseForm, itemsForm, bitmapForm, wholeForm}
@@ -33,11 +34,6 @@ use Rattle.model.proofs.Runs.{runs-most}
 use Rattle.cost.proofs.Chosen as cheapest
 use Rattle.cost.proofs.Chosen.{Whole, whole-chosen}
 use Rattle.planning.proofs.Parts.{extent-end, own-rises, own-back}
-
--- a body that is accepted under its tag, and names these rows
-pub record Holds (tag span : ℕ) (rows body : List ℕ) : Type 0 where
-  pub accepted : accepts tag span body ≡ true
-  pub named : names tag span body ≡ rows
 
 -- ---- a body of which the header reads as a view, and of which the rest is the layout of a list
 
@@ -68,10 +64,10 @@ module _ {tag span : ℕ} {v : View} {own body : List ℕ} (w : Written tag span
   view-there = both-true _ _ (le-leb _ _ (w .room)) (both-true _ _ (le-leb _ _ (w .inside)) (both-true _ _ local-there ends-there))
 
   written-holds : {rows : List ℕ} → eqb tag 9 ≡ false → shift (v .base) own ≡ rows → Holds tag span rows body
-  unfolding accepts names singleAccepts singleNames
+  unfolding singleAccepts singleNames
   written-holds e same = record {
-    accepted = pick-false _ _ e ∙ rw (w .seen) (both-true _ _ (w .fields) view-there);
-    named = pick-false _ _ e ∙ rw (w .seen, own-named) same;
+    accepted = accepts-other tag span body (eqb-false tag 9 e) ∙ rw (w .seen) (both-true _ _ (w .fields) view-there);
+    named = names-other tag span body (eqb-false tag 9 e) ∙ rw (w .seen, own-named) same;
   }
 
 -- ---- what each tag wants of a list, beside that it has 1 to 65,535 positions that rise below the span
@@ -96,13 +92,10 @@ fit-is : (n : ℕ) → n ≤ 65535 → fit n ≡ n
 unfolding fit
 fit-is n h = pick-true n 0 (le-leb n 65535 h)
 
-list-length : (span : ℕ) (xs : List ℕ) → length (localLayout 3 span xs) ≡ length xs * 2
-unfolding localLayout byTag pick
-list-length span xs = length-layout 2 xs
-
-wide-list-length : (span : ℕ) (xs : List ℕ) → length (localLayout 2 span xs) ≡ length xs * 4
-unfolding localLayout byTag pick
-wide-list-length span xs = length-layout 4 xs
+width-some : (wide : Bool) → 0 < widthOf wide
+unfolding widthOf
+width-some true = omega arith
+width-some false = omega arith
 
 -- a plain form has no ends to be present
 plain : {A : Type 0} → false ≡ true → A
@@ -123,17 +116,11 @@ module _ {span : ℕ} {xs : List ℕ} (r : Rising 0 span xs) (some : 1 ≤ lengt
   unfolding singleLayout plainLayout viewOf fieldsOk pick
   write-dense e = bare 1 (rw (fit-is span (omega arith), e)) refl (fits-dense r some few e)
 
-  write-wide-list : Written 2 span (view 2 false 0 span (length xs) 0) xs (singleLayout 2 false span xs)
-  unfolding singleLayout plainLayout viewOf fieldsOk pick
-  write-wide-list =
-      let n : length (localLayout 2 span xs) / 4 ≡ length xs = omega (arith, wide-list-length span xs) in
-      bare 2 (rw (n, fit-is (length xs) few)) refl (fits-wide-list r some few (omega arith))
-
-  write-list : Rising 0 65536 xs → Written 3 span (view 3 false 0 span (length xs) 0) xs (singleLayout 3 false span xs)
-  unfolding singleLayout plainLayout viewOf fieldsOk pick
-  write-list c =
-      let n : length (localLayout 3 span xs) / 2 ≡ length xs = omega (arith, list-length span xs) in
-      bare 3 (rw (n, fit-is (length xs) few)) refl (fits-list r some few c)
+  write-list : (wide : Bool) → Rising 0 (256 ^ widthOf wide) xs → Written (listTag wide) span (view (listTag wide) false 0 span (length xs) 0) xs (singleLayout (listTag wide) false span xs)
+  unfolding singleLayout pick
+  write-list wide c =
+      let n : length (localLayout (listTag wide) span xs) / widthOf wide ≡ length xs = rw (list-layout-length wide span xs) (mul-div-cancel (length xs) (width-some wide)) in
+      rw (list-plain wide span xs) (bare (listTag wide) (list-view wide span _ ∙ rw (n, fit-is (length xs) few)) (list-fields wide _) (fits-list r some few wide c))
 
   -- ---- with the count and another number of two bytes
 
@@ -146,19 +133,16 @@ module _ {span : ℕ} {xs : List ℕ} (r : Rising 0 span xs) (some : 1 ≤ lengt
   unfolding digits
   headed tag second seen fields fits = record { seen = seen; fields = fields; room = omega arith; inside = omega arith; part = refl; count = refl; fits = fits; ends = plain }
 
-  write-runs : Rising 0 65536 xs → Written 4 span (view 4 false 0 span (length xs) 4) xs (singleLayout 4 false span xs)
-  unfolding singleLayout plainLayout viewOf fieldsOk pick digits le
-  write-runs c =
+  write-runs : (wide : Bool) → Rising 0 (256 ^ widthOf wide) xs → Written (runsTag wide) span (view (runsTag wide) false 0 span (length xs) 4) xs (singleLayout (runsTag wide) false span xs)
+  unfolding singleLayout pick digits le
+  write-runs wide c =
+      let body : List ℕ = digits 2 (length xs) ++ digits 2 (length (runsOf xs)) ++ localLayout (runsTag wide) span xs in
       let n = counted in
       let m = back 2 (length (runsOf xs)) (omega (arith, runs-most xs)) in
-      headed 4 (length (runsOf xs)) (rw n) (eq-eqb _ _ (m ∙ omega (arith, runs-layout-length span xs))) (fits-runs r some few c)
-
-  write-wide-runs : Written 5 span (view 5 false 0 span (length xs) 4) xs (singleLayout 5 false span xs)
-  unfolding singleLayout plainLayout viewOf fieldsOk pick digits le
-  write-wide-runs =
-      let n = counted in
-      let m = back 2 (length (runsOf xs)) (omega (arith, runs-most xs)) in
-      headed 5 (length (runsOf xs)) (rw n) (eq-eqb _ _ (m ∙ omega (arith, wide-runs-layout-length span xs))) (fits-wide-runs r some few (omega arith))
+      let size : length body - 4 ≡ length (runsOf xs) * (widthOf wide + 4) = omega (arith, runs-layout-length wide span xs) in
+      let stated : (length body - 4) / (widthOf wide + 4) ≡ length (runsOf xs) = rw size (mul-div-cancel (length (runsOf xs)) (omega arith)) in
+      rw (runs-plain wide span xs)
+      (headed (runsTag wide) (length (runsOf xs)) (runs-view wide span body ∙ rw n) (runs-fields wide body ∙ eq-eqb _ _ (m ∙ sym stated)) (fits-runs r some few wide c))
 
   write-bitmap : Written 6 span (view 6 false 0 span (length xs) 4) xs (singleLayout 6 false span xs)
   unfolding singleLayout plainLayout viewOf bitmapView fieldsOk both pick digits le
@@ -225,12 +209,17 @@ module _ {span : ℕ} {xs : List ℕ} (r : Rising 0 span xs) (some : 1 ≤ lengt
   from-own : {tag : ℕ} {v : View} {body : List ℕ} → Written tag span v own body → v .base ≡ first → eqb tag 9 ≡ false → Holds tag span xs body
   from-own w b e = written-holds w e (rw b (own-back r some))
 
+  -- fields of four bytes hold every position
+  held : Rising 0 (256 ^ 4) xs
+  held = rising-wider (omega arith) (omega arith) r
+
   pub single-holds : {tag : ℕ} {trims : Bool} → SingleFits span xs tag trims → Holds tag span xs (singleLayout tag trims span xs)
+  unfolding listTag runsTag widthOf
   single-holds (dense e) = plainly (write-dense e) refl refl
-  single-holds list32 = plainly write-wide-list refl refl
-  single-holds (list16 c) = plainly (write-list c) refl refl
-  single-holds (runs16 c) = plainly (write-runs c) refl refl
-  single-holds runs32 = plainly write-wide-runs refl refl
+  single-holds list32 = plainly (write-list true held) refl refl
+  single-holds (list16 c) = plainly (write-list false c) refl refl
+  single-holds (runs16 c) = plainly (write-runs false c) refl refl
+  single-holds runs32 = plainly (write-runs true held) refl refl
   single-holds bitmap = plainly write-bitmap refl refl
   single-holds trimmed-bitmap = from-own write-trimmed-bitmap refl refl
   single-holds (missing n) = plainly (write-missing n) refl refl

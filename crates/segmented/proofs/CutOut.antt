@@ -7,6 +7,7 @@ use Prim.Native.Nat.{ℕ, zero, suc, _+_, _-_, _<_, _≤_}
 use native.Mathlib.Omega.{arith}
 use lib.Dec.{eqb}
 use lib.ListN.{length}
+use Rattle.fields.specs.Le.{widthOf}
 use Rattle.model.specs.Tests.{pick, flat, total}
 use Rattle.model.specs.Lists.{Rising, shift}
 use Rattle.model.proofs.Tests.{both-true, all-from, flat-same}
@@ -15,7 +16,7 @@ use Rattle.model.proofs.Rising.{rising-room, rising-wider}
 use Rattle.directory.specs.Directory.{entryOf, partOf, tagAt, spanAt, countAt, isLocal}
 use Rattle.directory.specs.declared.Segment as stated
 use Rattle.directory.proofs.LaidOut.{Small, Sound, segments-stated, entry-laid, laid-accepts, names-laid, payload-laid}
-use Rattle.forms.specs.Forms.{localAccepts, localNames}
+use Rattle.forms.specs.Forms.{listTag, runsTag, localAccepts, localNames}
 use Rattle.forms.specs.RowSets.{RowSet}
 use Rattle.forms.proofs.Tags.{Other, local-cases, other-ne}
 use Rattle.forms.proofs.Laid.{LocalFits, fits-dense, fits-list, fits-runs, fits-bitmap, fits-missing, layout-accepts, layout-names}
@@ -41,13 +42,13 @@ module _ {span : ℕ} {own : List ℕ} (held : RowSet span own) (narrow : span �
   small-fields = rising-wider (omega arith) (omega arith) (held .rising)
 
   local-holds : (tag : ℕ) → isLocal tag ≡ true → (tag ≡ 1 → length own ≡ span) → LocalFits tag span own
-  unfolding isLocal pick
+  unfolding isLocal pick listTag runsTag widthOf
   local-holds tag =
       local-cases (λ (t : ℕ). isLocal t ≡ true → (t ≡ 1 → length own ≡ span) → LocalFits t span own)
       (λ l full. fits-dense (held .rising) (held .some) (held .most) (full refl))
       (λ l full. absurd (false≢true l))
-      (λ l full. fits-list (held .rising) (held .some) (held .most) small-fields)
-      (λ l full. fits-runs (held .rising) (held .some) (held .most) small-fields)
+      (λ l full. fits-list (held .rising) (held .some) (held .most) false small-fields)
+      (λ l full. fits-runs (held .rising) (held .some) (held .most) false small-fields)
       (λ l full. absurd (false≢true l))
       (λ l full. fits-bitmap (held .rising) (held .some) (held .most))
       (λ l full. fits-missing (held .rising) (held .some) (held .most) narrow)

@@ -5,12 +5,12 @@ use mathlib.Core.Bool.{Bool, true, false, false≢true}
 use mathlib.Core.Logic.{⊎-elim}
 use mathlib.Core.List.{List, [], _++_, append-assoc}
 use Prim.Native.Nat.{ℕ, _+_, _-_, _*_, _/_, _<_, _≤_}
-use native.Mathlib.Nat.{eq-or-lt-of-le}
+use native.Mathlib.Nat.{eq-or-lt-of-le, mul-div-cancel}
 use native.Mathlib.Omega.{arith}
 use lib.Dec.{eqb, leb}
 use lib.ListN.{length, getD, drop, length-drop}
 use borrow.Author.Tests.{eqb-true, eqb-false, leb-true, leb-false}
-use Rattle.fields.specs.Le.{le, digits, Bytes}
+use Rattle.fields.specs.Le.{le, digits, Bytes, widthOf}
 use Rattle.fields.proofs.Laws.{next-field, bytes-tail}
 use Rattle.model.specs.Tests.{both, pick}
 use Rattle.model.specs.Lists.{Rising, below, has, shift, runsOf, positionsOf}
@@ -19,15 +19,16 @@ use Rattle.model.proofs.Rising.{rising-below, rising-strict}
 use Rattle.model.proofs.Standing.{below-none, has-index, has-inside}
 use Rattle.model.proofs.Positions.{positions-shift}
 use Rattle.model.proofs.Append.{length-shift, getD-shift, shift-zero}
-use Rattle.forms.specs.Forms.{byTag, localAccepts, localLayout}
+use Rattle.forms.specs.Forms.{listTag, runsTag, byTag, localAccepts, localLayout}
 use Rattle.forms.proofs.Laws.{local-layout}
-use Rattle.forms.proofs.Laid.{runs-layout-length, wide-runs-layout-length}
+use Rattle.forms.proofs.Laid.{runs-layout-length}
 use Rattle.forms.proofs.Tags.{Other}
 use Rattle.single.specs.Single.{view, viewOf, bitmapView, trimmedMissingView, fieldsOk, partIn, namedIn, endsOk, singleAccepts, singleNames}
 use Rattle.single.specs.Layout.{firstOf, extentOf, plainLayout, trimmedLayout, singleLayout}
 use Rattle.single.specs.declared.View.{View}
 use Rattle.single.proofs.Laws.{tag-cases, other-view}
 use Rattle.single.proofs.Named.{Parts, single-parts, named-rising, whole-length}
+use Rattle.single.proofs.Widths.{list-view, list-plain, runs-view, runs-fields, runs-plain}
 
 -- ---- the first row and the extent of a list of which both ends are present
 
@@ -112,36 +113,33 @@ module _ (span : ℕ) (xs : List ℕ) where
   unfolding singleLayout plainLayout singleNames viewOf pick
   laid-dense ok b = rest-laid (viewOf 1 span xs) span xs (single-parts 1 span xs ok) b refl refl
 
-  laid-wide-list : Laid span xs 2
-  unfolding singleLayout plainLayout singleNames viewOf pick
-  laid-wide-list ok b = rest-laid (viewOf 2 span xs) span xs (single-parts 2 span xs ok) b refl refl
-
-  laid-list : Laid span xs 3
-  unfolding singleLayout plainLayout singleNames viewOf pick
-  laid-list ok b = rest-laid (viewOf 3 span xs) span xs (single-parts 3 span xs ok) b refl refl
-
   laid-missing : Laid span xs 7
   unfolding singleLayout plainLayout singleNames viewOf fieldsOk pick
   laid-missing ok b = headed (viewOf 7 span xs) span xs (single-parts 7 span xs ok) b 0 refl refl refl (eqb-true (le 2 xs 2) 0 (accepted-fields 7 span xs ok))
 
-  -- the number of runs that the header states is that of the list, by the length of the rest
-  laid-runs : Laid span xs 4
-  unfolding singleLayout plainLayout singleNames viewOf fieldsOk pick
-  laid-runs ok b =
-      let p = single-parts 4 span xs ok in
-      let rows : List ℕ = shift 0 (namedIn (viewOf 4 span xs) xs) in
-      let size : length xs - 4 ≡ 6 * length (runsOf rows) = sym (length-drop 4 xs) ∙ ap length (rest-laid (viewOf 4 span xs) span xs p b refl refl) ∙ runs-layout-length span rows in
-      let stated : le 2 xs 2 ≡ (length xs - 4) / 6 = eqb-true (le 2 xs 2) ((length xs - 4) / 6) (accepted-fields 4 span xs ok) in
-      headed (viewOf 4 span xs) span xs p b (length (runsOf rows)) refl refl refl (omega arith)
+  by-view : (tag : ℕ) {v : View} → v ≡ viewOf tag span xs → (Parts v span xs → xs ≡ singleLayout tag (v .trimmed) span (shift (v .base) (namedIn v xs))) → singleAccepts tag span xs ≡ true
+      → xs ≡ singleLayout tag (viewOf tag span xs .trimmed) span (singleNames tag span xs)
+  unfolding singleNames
+  by-view tag e f ok =
+      subst (λ (w : View). Parts w span xs → xs ≡ singleLayout tag (w .trimmed) span (shift (w .base) (namedIn w xs))) e f (single-parts tag span xs ok)
 
-  laid-wide-runs : Laid span xs 5
-  unfolding singleLayout plainLayout singleNames viewOf fieldsOk pick
-  laid-wide-runs ok b =
-      let p = single-parts 5 span xs ok in
-      let rows : List ℕ = shift 0 (namedIn (viewOf 5 span xs) xs) in
-      let size : length xs - 4 ≡ 8 * length (runsOf rows) = sym (length-drop 4 xs) ∙ ap length (rest-laid (viewOf 5 span xs) span xs p b refl refl) ∙ wide-runs-layout-length span rows in
-      let stated : le 2 xs 2 ≡ (length xs - 4) / 8 = eqb-true (le 2 xs 2) ((length xs - 4) / 8) (accepted-fields 5 span xs ok) in
-      headed (viewOf 5 span xs) span xs p b (length (runsOf rows)) refl refl refl (omega arith)
+  laid-list : (wide : Bool) → Laid span xs (listTag wide)
+  unfolding singleLayout pick
+  laid-list wide ok b =
+      by-view (listTag wide) (sym (list-view wide span xs)) (λ p. rest-laid _ span xs p b refl refl ∙ sym (list-plain wide span _)) ok
+
+  -- the number of runs that the header states is that of the list, by the length of the rest
+  laid-runs : (wide : Bool) → Laid span xs (runsTag wide)
+  unfolding singleLayout pick
+  laid-runs wide ok b =
+      by-view (runsTag wide) (sym (runs-view wide span xs))
+      (λ p.
+      let rest = rest-laid _ span xs p b refl refl in
+      let rows : List ℕ = shift 0 (namedIn (view (runsTag wide) false 0 span (le 2 xs 0) 4) xs) in
+      let size : length xs - 4 ≡ length (runsOf rows) * (widthOf wide + 4) = sym (length-drop 4 xs) ∙ ap length rest ∙ runs-layout-length wide span rows in
+      let stated : le 2 xs 2 ≡ (length xs - 4) / (widthOf wide + 4) = eqb-true _ _ (sym (runs-fields wide xs) ∙ accepted-fields (runsTag wide) span xs ok) in
+      headed _ span xs p b (length (runsOf rows)) refl refl refl (stated ∙ rw size (mul-div-cancel (length (runsOf rows)) (omega arith))) ∙ sym (runs-plain wide span rows))
+      ok
 
   -- ---- trimmed: base and extent are those of the list, as both ends are present
 
@@ -194,12 +192,6 @@ module _ (span : ℕ) (xs : List ℕ) where
   unfolding le
   flag-is k f z = omega arith
 
-  by-view : (tag : ℕ) {v : View} → v ≡ viewOf tag span xs → (Parts v span xs → xs ≡ singleLayout tag (v .trimmed) span (shift (v .base) (namedIn v xs))) → singleAccepts tag span xs ≡ true
-      → xs ≡ singleLayout tag (viewOf tag span xs .trimmed) span (singleNames tag span xs)
-  unfolding singleNames
-  by-view tag e f ok =
-      subst (λ (w : View). Parts w span xs → xs ≡ singleLayout tag (w .trimmed) span (shift (w .base) (namedIn w xs))) e f (single-parts tag span xs ok)
-
   laid-bitmap : Laid span xs 6
   unfolding singleLayout plainLayout viewOf bitmapView fieldsOk pick
   laid-bitmap ok b =
@@ -224,9 +216,10 @@ module _ (span : ℕ) (xs : List ℕ) where
   laid-other tag o ok b = by-view tag {v = view 0 false 0 span 0 0} (sym (other-view tag span xs o)) (λ p. absurd (false≢true (p .local))) ok
 
 pub single-layout : (tag span : ℕ) (xs : List ℕ) → singleAccepts tag span xs ≡ true → Bytes xs → xs ≡ singleLayout tag (viewOf tag span xs .trimmed) span (singleNames tag span xs)
+unfolding listTag runsTag
 single-layout tag span xs =
     tag-cases (Laid span xs)
-    (laid-dense span xs) (laid-wide-list span xs) (laid-list span xs) (laid-runs span xs) (laid-wide-runs span xs) (laid-bitmap span xs) (laid-missing span xs)
+    (laid-dense span xs) (laid-list span xs true) (laid-list span xs false) (laid-runs span xs false) (laid-runs span xs true) (laid-bitmap span xs) (laid-missing span xs)
     (laid-trimmed-missing span xs) (laid-other span xs)
     tag
 
