@@ -3,7 +3,8 @@ pub mod One
 pub mod Contracts
 pub mod Order
 pub mod Refused
-pub mod Parts
+pub mod BodyToRows
+pub mod RowsToBody
 pub mod Two
 pub mod Three
 pub mod Examples

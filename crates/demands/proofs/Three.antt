@@ -2,7 +2,7 @@
 -- Assumes nothing.
 use mathlib.Core.Path.{_≡_, refl, sym, ap, _∙_}
 use mathlib.Core.Bool.{true}
-use mathlib.Core.List.{List, [], _∷_}
+use mathlib.Core.List.{List}
 use Prim.Native.Nat.{ℕ, _-_, _≤_, _<_}
 use native.Mathlib.Nat.{le-refl}
 use native.Mathlib.Omega.{arith}
@@ -11,8 +11,8 @@ use lib.ListN.{length, getD}
 use lib.Seq.{ext-getD}
 use borrow.Author.Tests.{le-leb}
 use Rattle.fields.specs.Le.{Bytes}
-use Rattle.model.specs.Lists.{Rising, rankOf, selectOf, walkOf, positionsOf, shift}
-use Rattle.model.specs.Answers.{Answer, accepted, over, ranksOf}
+use Rattle.model.specs.Lists.{positionsOf, shift}
+use Rattle.model.specs.Answers.{Answer}
 use Rattle.model.proofs.Tests.{pick-true}
 use Rattle.model.proofs.Standing.{select-is}
 use Rattle.single.specs.Single.{viewOf}
@@ -24,7 +24,9 @@ use Rattle.bodies.proofs.Named.{names-rising, names-some, no-second-body}
 use Rattle.model.proofs.Positions.{positions-back}
 use Rattle.planning.specs.Planning.{planOf, planOut}
 use Rattle.planning.proofs.Accepted.{plan-divided, plan-number}
-use Rattle.demands.proofs.Two.{tagIn, bodyIn, plan-holds, bitmap-flag}
+use Rattle.demands.specs.Demands.{tagIn, bodyIn, Named}
+use Rattle.demands.proofs.BodyToRows.{bitmap-flag}
+use Rattle.demands.proofs.Two.{plan-holds}
 
 -- ---- plans: two that are accepted over coverages of equal span, with any seeds, limits, workspaces and outputs, give the same tag and
 -- body only if they hold the same rows counted from their starts
@@ -55,26 +57,14 @@ module _ (start end : ℕ) (rows seeds : List ℕ) (limit words : ℕ) (out : Li
       ∙ ap (λ (b : ℕ). shift b (positionsOf start′ rows′)) e
       ∙ sym (positions-back start′ (le-refl start′) (d′ .rising))
 
--- ---- bodies: a list is named where it rises below the span, has 1 to 65,535 positions, and every call answers it
-
-pub record Named (tag span : ℕ) (body rows : List ℕ) : Type 0 where
-  pub rising : Rising 0 span rows
-  pub some : 1 ≤ length rows
-  pub most : length rows ≤ 65535
-  pub counts : validateOf tag span body ≡ accepted (length rows ∷ [])
-  pub ranks : (p : ℕ) → rankAnswer tag span body p ≡ accepted (rankOf rows p)
-  pub many : (ps old : List ℕ) → length ps ≤ length old → (ranksAnswer tag span body ps (length old) ≡ accepted (length ps ∷ [])) × (ranksLeft tag span body ps old ≡ over (ranksOf rows ps) old)
-  pub selects : (k : ℕ) → selectAnswer tag span body k ≡ accepted (selectOf rows k)
-  pub walks : (k : ℕ) (old : List ℕ) → (walkAnswer tag span body k (length old) ≡ accepted (length (walkOf rows k (length old)) ∷ [])) × (walkLeft tag span body k old ≡ over (walkOf rows k (length old)) old)
+-- ---- bodies
 
 module _ (tag span : ℕ) (body : List ℕ) (ok : accepts tag span body ≡ true) (bytes : Bytes body) where
   -- each accepted body, from any writer, names a list
   pub names-one : Named tag span body (names tag span body)
   unfolding validateOf rankAnswer ranksAnswer ranksLeft selectAnswer walkAnswer walkLeft
   names-one = record {
-    rising = names-rising tag span body ok bytes;
-    some = names-some tag span body ok bytes;
-    most = names-few tag span body ok bytes;
+    held = record { rising = names-rising tag span body ok bytes; some = names-some tag span body ok bytes; most = names-few tag span body ok bytes };
     counts = sym (answers tag span body ok refl);
     ranks = λ p. sym (answers tag span body ok refl);
     many = λ ps old h.

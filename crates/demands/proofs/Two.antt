@@ -1,111 +1,62 @@
--- Demand 2: the bytes of all nine tags against document 01's layouts. T1, from rows to body: the layout of a fitting list is accepted and
--- names the list. T2, from body to rows: an accepted body, from any writer, is the layout of the list that it names.
+-- Demand 2: the bytes of all nine tags against document 01's layouts, both ways. An accepted body, from any writer, is the layout of the
+-- list that it names, and that list is one the form can hold over the span (T2); the layout of such a list is accepted and names it (T1).
 -- Assumes nothing.
-use mathlib.Core.Path.{_≡_, refl, sym, ap, _∙_}
-use mathlib.Core.Bool.{true, false}
+use mathlib.Core.Path.{_≡_, sym, _∙_}
+use mathlib.Core.Bool.{false}
 use mathlib.Core.Logic.{⊎-elim}
-use mathlib.Core.List.{List, [], _++_}
+use mathlib.Core.List.{List}
 use Prim.Native.Nat.{ℕ, _-_, _≤_}
 use native.Mathlib.Omega.{arith}
-use lib.Dec.{eqb, leb}
-use lib.ListN.{length, getD, take}
-use borrow.Author.Tests.{leb-false}
-use Rattle.fields.specs.Le.{digits, Bytes}
-use Rattle.model.specs.Tests.{pick, flat}
-use Rattle.model.specs.Lists.{Rising, runsOf, positionsOf}
-use Rattle.model.specs.Answers.{Answer}
-use Rattle.model.proofs.Tests.{either}
-use Rattle.lists.specs.Lists.{listLayout}
-use Rattle.runs.specs.Runs.{runsLayout}
-use Rattle.bitmap.specs.Body.{bitmapLayout}
-use Rattle.missing.specs.Missing.{missingLayout}
-use Rattle.directory.specs.Directory.{statedSegments}
-use Rattle.directory.specs.Layout.{directoryLayout}
-use Rattle.forms.specs.Forms.{byTag, localLayout}
-use Rattle.single.specs.Single.{viewOf, bitmapView, trimmedMissingView}
-use Rattle.single.specs.Layout.{firstOf, extentOf, plainLayout, trimmedLayout, singleLayout}
-use Rattle.single.proofs.Laid.{single-layout}
-use Rattle.single.proofs.Named.{single-parts}
-use Rattle.bodies.specs.Bodies.{accepts, names}
-use Rattle.bodies.proofs.Laws.{names-other, nine, other}
-use Rattle.planning.specs.Bodies.{segmentedLayout}
+use lib.Dec.{eqb}
+use lib.ListN.{length}
+use Rattle.model.specs.Tests.{pick}
+use Rattle.model.specs.Lists.{positionsOf}
+use Rattle.forms.proofs.Tags.{Other, other-ne}
+use Rattle.bodies.specs.Bodies.{accepts, Holds}
+use Rattle.demands.specs.Layouts.{Dense, Items, Runs, Bitmap, Missing, TrimmedMissing, Segmented, Exactly}
+use Rattle.demands.proofs.BodyToRows.{dense-back, list32-back, list16-back, runs16-back, runs32-back, missing-back, trimmed-missing-back, bitmap-back, segmented-back}
+use Rattle.demands.proofs.RowsToBody.{dense-forth, list32-forth, list16-forth, runs16-forth, runs32-forth, plain-bitmap-forth, trimmed-bitmap-forth, missing-forth, trimmed-missing-forth, segmented-forth}
 use Rattle.planning.specs.Planning.{plannedValues, planNumber, planOf, planOut}
-use Rattle.planning.proofs.Singly.{Holds, dense, list32, list16, runs16, runs32, bitmap, trimmed-bitmap, missing, trimmed-missing, single-holds}
-use Rattle.planning.proofs.Segmented.{Segs, body-accepted, body-named}
 use Rattle.planning.proofs.Accepted.{plan-number, plan-accepted, output-holds}
-use Rattle.demands.proofs.Parts.{entriesIn, partLayout, segmented-layout}
+use Rattle.demands.specs.Demands.{tagIn, bodyIn}
 
--- ---- the layouts, as document 01's "Bodies by tag" has them
+-- ---- each tag: accepted exactly where there is a list that the form can hold over the span and the body is its layout
 
--- count u16, runs u16, then of each run its start in n bytes, length u16, rows before u16
-abbrev pub runsBody : ℕ → List ℕ → List ℕ
-runsBody n rows = digits 2 (length rows) ++ digits 2 (length (runsOf rows)) ++ runsLayout n rows
+pub dense-exactly : Exactly 1 Dense
+dense-exactly = record { body-to-rows = dense-back; rows-to-body = λ span rows body wide d. dense-forth wide d }
 
--- count u16, flag 0, zero; rows before each 256 positions, then words
-abbrev pub bitmapBody : ℕ → List ℕ → List ℕ
-bitmapBody span rows = digits 2 (length rows) ++ digits 2 0 ++ bitmapLayout span rows
+pub list32-exactly : Exactly 2 (Items 4)
+list32-exactly = record { body-to-rows = list32-back; rows-to-body = λ span rows body wide d. list32-forth wide d }
 
--- count u16, flag 1, zero, base u32, local span u32; then the same counted from the first row
-abbrev pub trimmedBitmapBody : List ℕ → List ℕ
-trimmedBitmapBody rows = digits 2 (length rows) ++ digits 2 1 ++ digits 4 (firstOf rows) ++ digits 4 (extentOf rows) ++ bitmapLayout (extentOf rows) (positionsOf (firstOf rows) rows)
+pub list16-exactly : Exactly 3 (Items 2)
+list16-exactly = record { body-to-rows = list16-back; rows-to-body = λ span rows body wide d. list16-forth wide d }
 
--- count u16, zero u16, holes u16
-abbrev pub missingBody : ℕ → List ℕ → List ℕ
-missingBody span rows = digits 2 (length rows) ++ digits 2 0 ++ missingLayout span rows
+pub runs16-exactly : Exactly 4 (Runs 2)
+runs16-exactly = record { body-to-rows = runs16-back; rows-to-body = λ span rows body wide d. runs16-forth wide d }
 
--- base u32, local span u16, count u16, holes
-abbrev pub trimmedMissingBody : List ℕ → List ℕ
-trimmedMissingBody rows = digits 4 (firstOf rows) ++ digits 2 (extentOf rows) ++ digits 2 (length rows) ++ missingLayout (extentOf rows) (positionsOf (firstOf rows) rows)
+pub runs32-exactly : Exactly 5 (Runs 4)
+runs32-exactly = record { body-to-rows = runs32-back; rows-to-body = λ span rows body wide d. runs32-forth wide d }
 
--- ---- T1: `Holds tag span rows body` is that the body is accepted under the tag and names the rows
+pub bitmap-exactly : Exactly 6 Bitmap
+bitmap-exactly = record { body-to-rows = bitmap-back; rows-to-body = λ span rows body wide d. ⊎-elim (plain-bitmap-forth wide) (trimmed-bitmap-forth wide) d }
 
-module _ {span : ℕ} {rows : List ℕ} (r : Rising 0 span rows) (some : 1 ≤ length rows) (few : length rows ≤ 65535) (wide : span ≤ 4294967295) where
-  pub dense-holds : length rows ≡ span → Holds 1 span rows []
-  unfolding singleLayout plainLayout localLayout byTag pick
-  dense-holds e = single-holds r some few wide (dense e)
+pub missing-exactly : Exactly 7 Missing
+missing-exactly = record { body-to-rows = missing-back; rows-to-body = λ span rows body wide d. missing-forth wide d }
 
-  pub list32-holds : Holds 2 span rows (listLayout 4 rows)
-  unfolding singleLayout plainLayout localLayout byTag pick
-  list32-holds = single-holds r some few wide list32
+pub trimmed-missing-exactly : Exactly 8 TrimmedMissing
+trimmed-missing-exactly = record { body-to-rows = trimmed-missing-back; rows-to-body = λ span rows body wide d. trimmed-missing-forth wide d }
 
-  pub list16-holds : Rising 0 65536 rows → Holds 3 span rows (listLayout 2 rows)
-  unfolding singleLayout plainLayout localLayout byTag pick
-  list16-holds n = single-holds r some few wide (list16 n)
+pub segmented-exactly : Exactly 9 Segmented
+segmented-exactly = record { body-to-rows = segmented-back; rows-to-body = λ span rows body wide d. segmented-forth wide d }
 
-  pub runs16-holds : Rising 0 65536 rows → Holds 4 span rows (runsBody 2 rows)
-  unfolding singleLayout plainLayout localLayout byTag pick
-  runs16-holds n = single-holds r some few wide (runs16 n)
+-- and no body of another tag
+pub no-other : (tag span : ℕ) (xs : List ℕ) → Other 9 tag → accepts tag span xs ≡ false
+unfolding accepts pick
+no-other tag span xs o =
+    let ne : (k : ℕ) → 1 ≤ k → k ≤ 9 → eqb tag k ≡ false = other-ne o in
+    rw (ne 1 (omega arith) (omega arith), ne 2 (omega arith) (omega arith), ne 3 (omega arith) (omega arith), ne 4 (omega arith) (omega arith), ne 5 (omega arith) (omega arith), ne 6 (omega arith) (omega arith), ne 7 (omega arith) (omega arith), ne 8 (omega arith) (omega arith), ne 9 (omega arith) (omega arith))
 
-  pub runs32-holds : Holds 5 span rows (runsBody 4 rows)
-  unfolding singleLayout plainLayout localLayout byTag pick
-  runs32-holds = single-holds r some few wide runs32
-
-  pub bitmap-holds : Holds 6 span rows (bitmapBody span rows)
-  unfolding singleLayout plainLayout localLayout byTag pick
-  bitmap-holds = single-holds r some few wide bitmap
-
-  pub trimmed-bitmap-holds : Holds 6 span rows (trimmedBitmapBody rows)
-  unfolding singleLayout trimmedLayout localLayout byTag pick
-  trimmed-bitmap-holds = single-holds r some few wide trimmed-bitmap
-
-  pub missing-holds : span ≤ 65535 → Holds 7 span rows (missingBody span rows)
-  unfolding singleLayout plainLayout localLayout byTag pick
-  missing-holds n = single-holds r some few wide (missing n)
-
-  pub trimmed-missing-holds : extentOf rows ≤ 65535 → Holds 8 span rows (trimmedMissingBody rows)
-  unfolding singleLayout trimmedLayout localLayout byTag pick
-  trimmed-missing-holds n = single-holds r some few wide (trimmed-missing n)
-
--- of segments that make up rising rows, none empty or wider than 65,535, where the body is no longer than its own fields can say
-pub segmented-holds : {span : ℕ} {rows : List ℕ} {segs : List (List ℕ)} → Segs span rows segs → length (segmentedLayout segs) ≤ 65535 → Holds 9 span rows (segmentedLayout segs)
-segmented-holds s short = record { accepted = body-accepted s short; named = body-named s short }
-
--- and so of every plan that is not refused: the bytes that the answer counts, at the front of the output, under the answered tag
-abbrev pub tagIn : Answer → ℕ
-tagIn a = getD (a .values) 0 0
-
-abbrev pub bodyIn : Answer → List ℕ → List ℕ
-bodyIn a out = take (getD (a .values) 1 0) out
+-- ---- and so of every plan that is not refused: the bytes that the answer counts, at the front of the output, under the answered tag
 
 pub plan-holds : (start end : ℕ) (rows seeds : List ℕ) (limit words : ℕ) (out : List ℕ) → planOf start end rows seeds limit words (length out) .number ≡ 0
     → Holds (tagIn (planOf start end rows seeds limit words (length out))) (end - start) (positionsOf start rows)
@@ -114,61 +65,3 @@ unfolding plannedValues
 plan-holds start end rows seeds limit words out ok =
     let n : planNumber start end rows seeds limit words (length out) ≡ 0 = sym (plan-number start end rows seeds limit words (length out)) ∙ ok in
     rw (plan-accepted start end rows seeds limit words (length out) n) (output-holds start end rows seeds limit words out n)
-
--- ---- T2
-
-module _ (span : ℕ) (xs : List ℕ) (bytes : Bytes xs) where
-  laid : (tag : ℕ) → (tag ≡ 9 → ⊥) → accepts tag span xs ≡ true → xs ≡ singleLayout tag (viewOf tag span xs .trimmed) span (names tag span xs)
-  laid tag n ok =
-      single-layout tag span xs (other tag span xs ok n) bytes
-      ∙ ap (λ (rows : List ℕ). singleLayout tag (viewOf tag span xs .trimmed) span rows) (sym (names-other tag span xs n))
-
-  pub dense-laid : accepts 1 span xs ≡ true → xs ≡ []
-  unfolding singleLayout plainLayout localLayout byTag viewOf pick
-  dense-laid = laid 1 (λ z. omega arith)
-
-  pub list32-laid : accepts 2 span xs ≡ true → xs ≡ listLayout 4 (names 2 span xs)
-  unfolding singleLayout plainLayout localLayout byTag viewOf pick
-  list32-laid = laid 2 (λ z. omega arith)
-
-  pub list16-laid : accepts 3 span xs ≡ true → xs ≡ listLayout 2 (names 3 span xs)
-  unfolding singleLayout plainLayout localLayout byTag viewOf pick
-  list16-laid = laid 3 (λ z. omega arith)
-
-  pub runs16-laid : accepts 4 span xs ≡ true → xs ≡ runsBody 2 (names 4 span xs)
-  unfolding singleLayout plainLayout localLayout byTag viewOf pick
-  runs16-laid = laid 4 (λ z. omega arith)
-
-  pub runs32-laid : accepts 5 span xs ≡ true → xs ≡ runsBody 4 (names 5 span xs)
-  unfolding singleLayout plainLayout localLayout byTag viewOf pick
-  runs32-laid = laid 5 (λ z. omega arith)
-
-  -- the flag says which of the two
-  pub bitmap-flag : accepts 6 span xs ≡ true → viewOf 6 span xs .trimmed ≡ eqb (getD xs 2 0) 1
-  unfolding viewOf bitmapView pick
-  bitmap-flag ok =
-      let parts = single-parts 6 span xs (other 6 span xs ok (λ z. omega arith)) in
-      ⊎-elim
-      (λ (e : eqb (getD xs 2 0) 1 ≡ true).
-      ⊎-elim
-      (λ (f : leb 12 (length xs) ≡ true). rw (e, f))
-      (λ (f : leb 12 (length xs) ≡ false). let room : 12 ≤ length xs = rw (e, f) at (parts .room) in absurd (omega (arith, leb-false 12 (length xs) f)))
-      (either (leb 12 (length xs))))
-      (λ (e : eqb (getD xs 2 0) 1 ≡ false). rw e)
-      (either (eqb (getD xs 2 0) 1))
-
-  pub bitmap-laid : accepts 6 span xs ≡ true → xs ≡ pick (eqb (getD xs 2 0) 1) (trimmedBitmapBody (names 6 span xs)) (bitmapBody span (names 6 span xs))
-  unfolding singleLayout plainLayout trimmedLayout localLayout byTag pick
-  bitmap-laid ok = laid 6 (λ z. omega arith) ok ∙ rw (bitmap-flag ok)
-
-  pub missing-laid : accepts 7 span xs ≡ true → xs ≡ missingBody span (names 7 span xs)
-  unfolding singleLayout plainLayout localLayout byTag viewOf pick
-  missing-laid = laid 7 (λ z. omega arith)
-
-  pub trimmed-missing-laid : accepts 8 span xs ≡ true → xs ≡ trimmedMissingBody (names 8 span xs)
-  unfolding singleLayout trimmedLayout localLayout byTag viewOf trimmedMissingView pick
-  trimmed-missing-laid = laid 8 (λ z. omega arith)
-
-  -- the directory that its own entries make, and the local layout of what each part names
-  pub segmented-laid : accepts 9 span xs ≡ true → xs ≡ directoryLayout (entriesIn xs) (statedSegments xs) ++ flat (partLayout xs) (statedSegments xs)
-  segmented-laid ok = segmented-layout span xs (nine 9 span xs ok refl) bytes

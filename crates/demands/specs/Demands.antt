@@ -3,10 +3,13 @@
 use mathlib.Core.Path.{_≡_}
 use mathlib.Core.Bool.{Bool}
 use mathlib.Core.List.{List, [], _∷_}
-use Prim.Native.Nat.{ℕ}
-use lib.ListN.{drop}
+use Prim.Native.Nat.{ℕ, _≤_}
+use lib.ListN.{length, getD, take, drop}
 use Rattle.model.specs.Tests.{pick}
-use Rattle.model.specs.Answers.{Answer}
+use Rattle.model.specs.Lists.{rankOf, selectOf, walkOf}
+use Rattle.model.specs.Answers.{Answer, accepted, over, ranksOf}
+use Rattle.forms.specs.RowSets.{RowSet}
+use Rattle.rowset.specs.Calls.{validateOf, rankAnswer, ranksAnswer, ranksLeft, selectAnswer, walkAnswer, walkLeft}
 
 -- a contract leaves nothing open: two results that meet it are equal. A result is what is answered and what is left in each lent place
 abbrev pub Once : {R : Type 0} → (R → Type 0) → Type 0
@@ -25,3 +28,19 @@ Kept n w old left = ((w .number ≡ 0 → ⊥) → left ≡ old) × (drop n left
 unfoldable pub numbersOf : List (Bool × ℕ) → List ℕ
 numbersOf [] = []
 numbersOf (t ∷ ts) = t .1 ∷ numbersOf ts
+
+-- the tag of a plan's answer, and the body that it counts at the front of the output
+abbrev pub tagIn : Answer → ℕ
+tagIn a = getD (a .values) 0 0
+
+abbrev pub bodyIn : Answer → List ℕ → List ℕ
+bodyIn a out = take (getD (a .values) 1 0) out
+
+-- a body names a list where the list is a row set over the span and every call answers it
+pub record Named (tag span : ℕ) (body rows : List ℕ) : Type 0 where
+  pub held : RowSet span rows
+  pub counts : validateOf tag span body ≡ accepted (length rows ∷ [])
+  pub ranks : (p : ℕ) → rankAnswer tag span body p ≡ accepted (rankOf rows p)
+  pub many : (ps old : List ℕ) → length ps ≤ length old → (ranksAnswer tag span body ps (length old) ≡ accepted (length ps ∷ [])) × (ranksLeft tag span body ps old ≡ over (ranksOf rows ps) old)
+  pub selects : (k : ℕ) → selectAnswer tag span body k ≡ accepted (selectOf rows k)
+  pub walks : (k : ℕ) (old : List ℕ) → (walkAnswer tag span body k (length old) ≡ accepted (length (walkOf rows k (length old)) ∷ [])) × (walkLeft tag span body k old ≡ over (walkOf rows k (length old)) old)
