@@ -6,4 +6,5 @@ pub mod Refused
 pub mod Parts
 pub mod Two
 pub mod Three
+pub mod Offers
 pub mod Examples
