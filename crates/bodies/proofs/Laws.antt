@@ -11,6 +11,7 @@ use borrow.Author.Tests.{eq-eqb, ne-eqb}
 use Rattle.fields.specs.Le.{Bytes}
 use Rattle.model.specs.Lists.{placeOf, walkOf}
 use Rattle.model.specs.declared.Place.{Place}
+use Rattle.model.specs.Tests.{pick}
 use Rattle.model.proofs.Tests.{pick-true, pick-false, same-or-not}
 use Rattle.directory.specs.Directory.{statedCount}
 use Rattle.single.specs.Single.{headerOf, viewOf, singleAccepts, singleNames, Readable, viewPlace, viewSelect, viewWalk}
@@ -19,17 +20,17 @@ use Rattle.single.proofs.Named.{Parts, single-parts, parts-readable, parts-coun
 use Rattle.segmented.specs.Segmented.{segmentedAccepts, segmentedNames}
 use Rattle.segmented.proofs.Named.{directory-of, segmented-length}
 use Rattle.bodies.specs.Bodies.{accepts, names}
+use Rattle.bodies.proofs.Tested.{tested}
 
 module _ (tag span : ℕ) (xs : List ℕ) where
   -- ---- which of the two it is
 
   pub accepts-nine : tag ≡ 9 → accepts tag span xs ≡ segmentedAccepts span xs
-  unfolding accepts
-  accepts-nine e = pick-true _ _ (eq-eqb tag 9 e)
+  unfolding accepts pick
+  accepts-nine e = rw e
 
   pub accepts-other : (tag ≡ 9 → ⊥) → accepts tag span xs ≡ singleAccepts tag span xs
-  unfolding accepts
-  accepts-other n = pick-false _ _ (ne-eqb tag 9 n)
+  accepts-other n = tested span xs tag n
 
   pub names-nine : tag ≡ 9 → names tag span xs ≡ segmentedNames xs
   unfolding names

@@ -1,2 +1,3 @@
+pub mod Tested
 pub mod Laws
 pub mod Named

@@ -28,11 +28,12 @@ pub length-entry : (s : Plan) (n i : ℕ) → length (entryLayout s n i) ≡ 16
 unfolding entryLayout
 length-entry s n i = simp (length-append, length-digits)
 
--- what the fields have room for
+-- what the fields have room for: each offset, so that the last part may reach past 65,535
 pub record Small (s : Plan) (n : ℕ) : Type 0 where
   pub segments : n < 65536
   pub rows : total (s .count) n < 65536
-  pub bytes : directorySize n + total (s .size) n < 65536
+  pub offset : (i : ℕ) → i < n → directorySize n + total (s .size) i < 65536
+  pub size : (i : ℕ) → i < n → s .size i < 65536
   pub start : (i : ℕ) → i < n → s .start i < 4294967296
   pub span : (i : ℕ) → i < n → s .span i < 65536
   pub tag : (i : ℕ) → i < n → s .tag i < 256
@@ -58,11 +59,11 @@ module _ (s : Plan) (n i : ℕ) (m : Small s n) (l : i < n) where
 
   offset-laid : le 2 (entryLayout s n i) 10 ≡ directorySize n + total (s .size) i
   unfolding entryLayout
-  offset-laid = le-next 2 4 _ _ 6 ∙ le-next 2 2 _ _ 4 ∙ le-next 2 2 _ _ 2 ∙ le-next 2 2 _ _ 0 ∙ le-head 2 _ _ (omega (arith, total-within (s .size) i n l, m .bytes))
+  offset-laid = le-next 2 4 _ _ 6 ∙ le-next 2 2 _ _ 4 ∙ le-next 2 2 _ _ 2 ∙ le-next 2 2 _ _ 0 ∙ le-head 2 _ _ (m .offset i l)
 
   length-laid : le 2 (entryLayout s n i) 12 ≡ s .size i
   unfolding entryLayout
-  length-laid = le-next 2 4 _ _ 8 ∙ le-next 2 2 _ _ 6 ∙ le-next 2 2 _ _ 4 ∙ le-next 2 2 _ _ 2 ∙ le-next 2 2 _ _ 0 ∙ le-head 2 _ _ (omega (arith, total-within (s .size) i n l, m .bytes))
+  length-laid = le-next 2 4 _ _ 8 ∙ le-next 2 2 _ _ 6 ∙ le-next 2 2 _ _ 4 ∙ le-next 2 2 _ _ 2 ∙ le-next 2 2 _ _ 0 ∙ le-head 2 _ _ (m .size i l)
 
   tag-laid : le 1 (entryLayout s n i) 14 ≡ s .tag i
   unfolding entryLayout

@@ -3,3 +3,4 @@ pub mod Sized
 pub mod Obeys
 pub mod Laws
 pub mod Laid
+pub mod Bounds

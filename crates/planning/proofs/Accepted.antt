@@ -15,11 +15,11 @@ use Rattle.stats.specs.Statistics.{statsOf}
 use Rattle.cost.specs.Forms.{wholeForm}
 use Rattle.model.specs.Lists.{positionsOf}
 use Rattle.model.proofs.Positions.{length-positions}
+use Rattle.bodies.specs.Bodies.{Holds}
 use Rattle.planning.specs.Refusals.{earlyNumber, endsOf}
 use Rattle.planning.specs.Planning.{plannedSegments, plannedOffers, plannedForm, plannedBody, plannedValues, answered, planNumber, planOf, planOut}
 use Rattle.planning.proofs.Dividing.{Divided, early-divided}
 use Rattle.planning.proofs.Linked.{plan-good}
-use Rattle.planning.proofs.Singly.{Holds}
 use Rattle.planning.proofs.Choosing.{chosen-short}
 use Rattle.planning.proofs.Sound.{body-length, body-holds, late-zero, plan-early, plan-late}
 

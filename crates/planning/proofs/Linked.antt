@@ -7,7 +7,7 @@ use Rattle.model.proofs.Positions.{length-positions}
 use Rattle.planning.specs.Segments.{segmentsOf}
 use Rattle.planning.proofs.Dividing.{Divided}
 use Rattle.planning.proofs.Narrow.{divided-narrow, plan-parts, parts-flat, parts-each, parts-some}
-use Rattle.planning.proofs.Segmented.{Segs, body-accepted, body-named}
+use Rattle.planning.proofs.Segmented.{Segs, segmented-holds}
 use Rattle.planning.proofs.Sized.{segmented-size}
 use Rattle.planning.proofs.Sound.{SegmentedGood}
 
@@ -26,4 +26,4 @@ module _ {start end words : ℕ} {rows ends : List ℕ} (d : Divided start end r
       }
 
   pub plan-good : SegmentedGood (end - start) (positionsOf start rows) (segmentsOf (positionsOf start rows) ends)
-  plan-good = record { sized = segmented-size plan-segs; holds = λ short. record { accepted = body-accepted plan-segs short; named = body-named plan-segs short } }
+  plan-good = record { sized = segmented-size plan-segs; holds = segmented-holds plan-segs }

@@ -1,19 +1,16 @@
--- One segment: its cheapest local form takes its rows, counted from its first, and reads them back.
+-- One segment: its tag, its rows counted from the first, and the bytes of its cheapest local form.
 -- Assumes nothing.
 use mathlib.Core.Path.{_≡_, refl, sym}
-use mathlib.Core.Bool.{true, false}
+use mathlib.Core.Bool.{true}
 use mathlib.Core.List.{List}
 use Prim.Native.Nat.{ℕ, suc, _+_, _-_, _<_, _≤_}
 use native.Mathlib.Omega.{arith}
 use lib.ListN.{length, getD}
-use Rattle.fields.specs.Le.{widthOf}
 use Rattle.model.specs.Tests.{pick}
 use Rattle.model.specs.Lists.{Rising, shift, positionsOf}
-use Rattle.model.proofs.Rising.{rising-room, rising-wider, rising-ends}
+use Rattle.model.proofs.Rising.{rising-room, rising-ends}
 use Rattle.model.proofs.Positions.{length-positions, positions-back}
 use Rattle.model.proofs.Counted.{Count}
-use Rattle.forms.specs.Forms.{listTag, runsTag, localAccepts, localNames}
-use Rattle.forms.proofs.Laid.{LocalFits, fits-dense, fits-list, fits-runs, fits-bitmap, fits-missing, layout-accepts, layout-names}
 use Rattle.single.specs.Layout.{firstOf, extentOf}
 use Rattle.directory.specs.Directory.{isLocal}
 use Rattle.stats.specs.declared.Stats.{Stats}
@@ -66,35 +63,16 @@ module _ {a b : ℕ} {seg : List ℕ} (r : Rising a b seg) (some : 1 ≤ length 
   pub own-count : length seg ≤ 65535 → Count (extentOf seg) (length seg)
   own-count few = record { some = some; within = omega (arith, rising-room (omega arith) own-rises, length-positions (firstOf seg) seg); most = few }
 
-  -- ---- what the form takes and gives back
+  -- where the cheapest form is dense every position is a row
+  module _ (few : length seg ≤ 65535) where
+    each-full : (f : Form) → Local (statsOf seg) f → f .tag ≡ 1 → length (positionsOf (firstOf seg) seg) ≡ extentOf seg
+    unfolding denseForm itemsForm bitmapForm statsOf
+    each-full _ (dense e) t = omega (arith, extent-span seg r some, own-count few .within, length-positions (firstOf seg) seg)
+    each-full _ list t = absurd (omega arith)
+    each-full _ runs t = absurd (omega arith)
+    each-full _ missing t = absurd (omega arith)
+    each-full _ bitmap t = absurd (omega arith)
 
-  module _ (few : length seg ≤ 65535) (narrow : extentOf seg ≤ 65535) where
-    -- what every form asks
-    own-some : 1 ≤ length (positionsOf (firstOf seg) seg)
-    own-some = rw (length-positions (firstOf seg) seg) some
-
-    own-few : length (positionsOf (firstOf seg) seg) ≤ 65535
-    own-few = rw (length-positions (firstOf seg) seg) few
-
-    own-narrow : Rising 0 65536 (positionsOf (firstOf seg) seg)
-    own-narrow = rising-wider (omega arith) (omega arith) own-rises
-
-    each-fits : (f : Form) → Local (statsOf seg) f → LocalFits (f .tag) (extentOf seg) (positionsOf (firstOf seg) seg)
-    unfolding denseForm itemsForm bitmapForm statsOf listTag runsTag widthOf
-    each-fits _ (dense e) = fits-dense own-rises own-some own-few (omega (arith, extent-span seg r some, own-count few .within, length-positions (firstOf seg) seg))
-    each-fits _ list = fits-list own-rises own-some own-few false own-narrow
-    each-fits _ runs = fits-runs own-rises own-some own-few false own-narrow
-    each-fits _ missing = fits-missing own-rises own-some own-few narrow
-    each-fits _ bitmap = fits-bitmap own-rises own-some own-few
-
-    own-fits : LocalFits (tagOf seg) (extentOf seg) (positionsOf (firstOf seg) seg)
+    pub own-full : tagOf seg ≡ 1 → length (positionsOf (firstOf seg) seg) ≡ extentOf seg
     unfolding tagOf
-    own-fits = each-fits (localForm (statsOf seg)) (local-chosen (statsOf seg))
-
-    pub payload-accepts : localAccepts (tagOf seg) (payloadOf seg) (extentOf seg) (length seg) ≡ true
-    unfolding payloadOf
-    payload-accepts = rw (length-positions (firstOf seg) seg) at (layout-accepts own-fits)
-
-    pub payload-names : localNames (tagOf seg) (payloadOf seg) (extentOf seg) (length seg) ≡ positionsOf (firstOf seg) seg
-    unfolding payloadOf
-    payload-names = rw (length-positions (firstOf seg) seg) at (layout-names own-fits)
+    own-full = each-full (localForm (statsOf seg)) (local-chosen (statsOf seg))

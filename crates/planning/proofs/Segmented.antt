@@ -1,6 +1,6 @@
 -- T1 for tag 9: the layout of segments that make up rising rows is accepted, and names the rows.
 -- Assumes nothing.
-use mathlib.Core.Path.{_≡_, refl, sym, ap, _∙_}
+use mathlib.Core.Path.{_≡_, refl, sym, ap, fun-ext, _∙_}
 use mathlib.Core.Bool.{true}
 use mathlib.Core.List.{List}
 use Prim.Native.Nat.{ℕ, suc, _+_, _-_, _<_, _≤_}
@@ -9,19 +9,21 @@ use lib.ListN.{length, getD, length-append}
 use Rattle.model.specs.Tests.{pick, flat, total}
 use Rattle.model.specs.Lists.{Rising, positionsOf}
 use Rattle.model.proofs.Tests.{both-true, all-from, flat-same, flat-length-step}
-use Rattle.model.proofs.Sums.{flat-total, total-within}
+use Rattle.model.proofs.Sums.{flat-total, total-within, total-le, total-same}
+use Rattle.model.proofs.Positions.{length-positions}
 use Rattle.model.proofs.Rising.{rising-from, rising-below, rising-strict, rising-room, rising-tests}
 use Rattle.model.proofs.Pieces.{pieces-select, flat-length-le}
-use Rattle.forms.specs.Forms.{localAccepts, localNames}
 use Rattle.single.specs.Layout.{firstOf, extentOf}
-use Rattle.directory.specs.Directory.{entryOf, partOf, tagAt, spanAt, countAt, directorySize}
-use Rattle.directory.specs.declared.Segment.{Segment}
+use Rattle.directory.specs.Directory.{directorySize}
 use Rattle.directory.specs.Layout.{directoryLayout}
-use Rattle.directory.proofs.LaidOut.{Small, Sound, length-layout, segments-stated, entry-laid, laid-accepts, names-laid, payload-laid}
-use Rattle.segmented.specs.Segmented.{partAccepts, partNames, segmentedAccepts, segmentedNames}
-use Rattle.bodies.specs.Bodies.{accepts, names}
-use Rattle.planning.specs.Bodies.{segmentAt, tagOf, payloadOf, payloadAt, entriesOf, segmentedLayout}
-use Rattle.planning.proofs.Parts.{tag-local, tag-small, extent-end, own-back, own-count, payload-accepts, payload-names}
+use Rattle.directory.proofs.LaidOut.{length-layout}
+use Rattle.segmented.specs.Segmented.{segmentedAccepts, segmentedNames}
+use Rattle.segmented.specs.Cuts.{Segment, payload, entriesFor, cutLayout, cutRows, SegmentFits, CutFits}
+use Rattle.segmented.proofs.CutOut.{cut-accepted, cut-named}
+use Rattle.bodies.specs.Bodies.{Holds}
+use Rattle.bodies.proofs.Laws.{accepts-nine, names-nine}
+use Rattle.planning.specs.Bodies.{segmentAt, segmentOf, payloadOf, payloadAt, entriesOf, segmentedLayout}
+use Rattle.planning.proofs.Parts.{tag-local, extent-end, own-rises, own-back, own-full}
 
 -- ---- the pieces of a rising list
 
@@ -90,64 +92,60 @@ module _ {span : ℕ} {xs : List ℕ} {segs : List (List ℕ)} (s : Segs span xs
   pub segment-within : (i : ℕ) → i < length segs → firstOf (segmentAt segs i) + extentOf (segmentAt segs i) ≤ span
   segment-within i l = rw (segment-end i l) (rising-below (segment-rising i l) _ (omega (arith, s .each i l)))
 
-  pub sound : Sound (entriesOf segs) span (length segs)
-  unfolding entriesOf firstOf
-  sound = record {
-    some = s .some;
-    few = omega (arith, counts, rising-room (omega arith) (s .rising));
-    within = λ i l. segment-within i l;
-    apart = λ i l. rw (segment-end i (omega arith)) (piece-before (segmentAt segs) (length segs) rises i l (s .each i (omega arith)) (s .each (suc i) l));
-    rows = λ i l. own-count (segment-rising i l) (s .each i l) (segment-few i l);
-    local = λ i l. tag-local (segmentAt segs i);
-  }
-
   -- ---- the layout, where it is no longer than its own fields can say
 
   module _ (short : length (segmentedLayout segs) ≤ 65535) where
-    pub small : Small (entriesOf segs) (length segs)
+    abbrev at : ℕ → Segment
+    at i = segmentOf (segmentAt segs i)
+
+    as-cut : segmentedLayout segs ≡ cutLayout at (length segs)
+    unfolding segmentedLayout cutLayout entriesOf entriesFor payloadAt payloadOf
+    as-cut = rw (fun-ext {f = λ (i : ℕ). length (positionsOf (firstOf (segmentAt segs i)) (segmentAt segs i))} {g = λ (i : ℕ). length (segmentAt segs i)} (λ i. length-positions (firstOf (segmentAt segs i)) (segmentAt segs i)))
+
+    sizes-within : (i : ℕ) → i < length segs → directorySize (length segs) + total (λ (j : ℕ). length (payload (at j))) (suc i) ≤ 65535
+    unfolding entriesOf payloadOf
+    sizes-within i l =
+        let whole : length (segmentedLayout segs) ≡ directorySize (length segs) + total (λ (j : ℕ). length (payload (at j))) (length segs) = length-segmented segs in
+        omega (arith, total-le (λ (j : ℕ). length (payload (at j))) (suc i) (length segs) l)
+
+    own-counts : total (λ (i : ℕ). length (at i .own)) (length segs) ≡ length xs
     unfolding entriesOf
-    small = record {
-      segments = omega (arith, length-segmented segs);
-      rows = omega (arith, counts, s .few);
-      bytes = omega (arith, length-segmented segs);
-      start = λ i l. omega (arith, segment-within i l, segment-end i l, s .wide);
-      span = λ i l. omega (arith, s .narrow i l);
-      tag = λ i l. tag-small (segmentAt segs i);
+    own-counts = total-same _ _ (length segs) (λ i l. length-positions (firstOf (segmentAt segs i)) (segmentAt segs i)) ∙ counts
+
+    segment-fits : (i : ℕ) → i < length segs → SegmentFits span (at i)
+    unfolding total
+    segment-fits i l =
+        let n : length (at i .own) ≡ length (segmentAt segs i) = length-positions (firstOf (segmentAt segs i)) (segmentAt segs i) in
+        record {
+          within = segment-within i l;
+          narrow = s .narrow i l;
+          held = record { rising = own-rises (segment-rising i l) (s .each i l); some = omega (arith, s .each i l); most = omega (arith, segment-few i l) };
+          local = tag-local (segmentAt segs i);
+          full = own-full (segment-rising i l) (s .each i l) (segment-few i l);
+          short = omega (arith, sizes-within i l);
+        }
+
+    fits : CutFits span (length segs) at
+    unfolding total firstOf
+    fits = record {
+      some = s .some;
+      most = omega (arith, layout-length segs);
+      each = segment-fits;
+      apart = λ i l. rw (segment-end i (omega arith)) (piece-before (segmentAt segs) (length segs) rises i l (s .each i (omega arith)) (s .each (suc i) l));
+      few = omega (arith, own-counts, s .few);
+      offsets = λ i l. omega (arith, sizes-within i l);
     }
 
-    -- entry and payload of segment i read back
-    as-laid : {A : Type 0} (f : ℕ → List ℕ → ℕ → ℕ → A) (i : ℕ) → i < length segs
-        → f (tagAt (segmentedLayout segs) i) (partOf (segmentedLayout segs) i) (spanAt (segmentedLayout segs) i) (countAt (segmentedLayout segs) i)
-        ≡ f (tagOf (segmentAt segs i)) (payloadOf (segmentAt segs i)) (extentOf (segmentAt segs i)) (length (segmentAt segs i))
-    unfolding segmentedLayout entryOf entriesOf payloadAt
-    as-laid f i l =
-        let e = entry-laid (entriesOf segs) (length segs) (flat (payloadAt segs) (length segs)) small i l in
-        rw (ap (λ (t : Segment). t .tag) e, payload-laid (entriesOf segs) (length segs) (payloadAt segs) small (λ j h. refl) i l, ap (λ (t : Segment). t .span) e, ap (λ (t : Segment). t .count) e)
+    segmented-accepted : segmentedAccepts span (segmentedLayout segs) ≡ true
+    segmented-accepted = rw as-cut (cut-accepted (s .wide) fits)
 
-    part-accepted : (i : ℕ) → i < length segs → partAccepts (segmentedLayout segs) i ≡ true
-    unfolding partAccepts
-    part-accepted i l = as-laid localAccepts i l ∙ payload-accepts (segment-rising i l) (s .each i l) (segment-few i l) (s .narrow i l)
-
-    part-named : (i : ℕ) → i < length segs → partNames (segmentedLayout segs) i ≡ positionsOf (firstOf (segmentAt segs i)) (segmentAt segs i)
-    unfolding partNames
-    part-named i l = as-laid localNames i l ∙ payload-names (segment-rising i l) (s .each i l) (segment-few i l) (s .narrow i l)
-
-    pub segmented-accepted : segmentedAccepts span (segmentedLayout segs) ≡ true
-    unfolding segmentedAccepts segmentedLayout
-    segmented-accepted = both-true _ _ (laid-accepts (entriesOf segs) (length segs) _ small sound (sizes segs)) (rw (segments-stated (entriesOf segs) (length segs) _ small) (all-from _ (length segs) part-accepted))
-
-    pub segmented-named : segmentedNames (segmentedLayout segs) ≡ xs
-    unfolding segmentedNames segmentedLayout entriesOf
+    segmented-named : segmentedNames (segmentedLayout segs) ≡ xs
+    unfolding cutRows
     segmented-named =
-        names-laid (entriesOf segs) (length segs) _ small _
-        ∙ flat-same _ (segmentAt segs) (length segs) (λ i l. rw (part-named i l) (own-back (segment-rising i l) (s .each i l)))
+        ap segmentedNames as-cut ∙ cut-named (s .wide) fits
+        ∙ flat-same _ (segmentAt segs) (length segs) (λ i l. own-back (segment-rising i l) (s .each i l))
         ∙ s .whole
 
     -- of a whole body
-    pub body-accepted : accepts 9 span (segmentedLayout segs) ≡ true
-    unfolding accepts pick
-    body-accepted = segmented-accepted
-
-    pub body-named : names 9 span (segmentedLayout segs) ≡ xs
-    unfolding names pick
-    body-named = segmented-named
+    pub segmented-holds : Holds 9 span xs (segmentedLayout segs)
+    segmented-holds = record { accepted = accepts-nine 9 span (segmentedLayout segs) refl ∙ segmented-accepted; named = names-nine 9 span (segmentedLayout segs) refl ∙ segmented-named }

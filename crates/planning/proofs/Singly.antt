@@ -9,7 +9,7 @@ use native.Mathlib.Nat.{mod-eq-of-lt, mul-div-cancel}
 use native.Mathlib.Omega.{arith}
 use lib.Dec.{eqb}
 use lib.ListN.{length, getD, drop}
-use borrow.Author.Tests.{le-leb, eq-eqb}
+use borrow.Author.Tests.{le-leb, eq-eqb, eqb-false}
 use Rattle.fields.specs.Le.{le, digits, widthOf}
 use Rattle.fields.proofs.Laws.{le-digits}
 use Rattle.model.specs.Tests.{both, pick}
@@ -25,7 +25,8 @@ use Rattle.single.specs.Single.{view, fit, viewOf, bitmapView, trimmedMissingVi
 use Rattle.single.specs.Layout.{firstOf, extentOf, plainLayout, trimmedLayout, singleLayout}
 use Rattle.single.specs.declared.View.{View}
 use Rattle.single.proofs.Widths.{list-view, list-fields, list-plain, runs-view, runs-fields, runs-plain}
-use Rattle.bodies.specs.Bodies.{accepts, names}
+use Rattle.bodies.specs.Bodies.{Holds}
+use Rattle.bodies.proofs.Laws.{accepts-other, names-other}
 use Rattle.stats.specs.Statistics.{statsOf}
 use Rattle.cost.specs.declared.Form.{Form}
 use Rattle.cost.specs.Forms.{denseForm, itemsForm, bitmapForm, wholeForm}
@@ -33,11 +34,6 @@ use Rattle.model.proofs.Runs.{runs-most}
 use Rattle.cost.proofs.Chosen as cheapest
 use Rattle.cost.proofs.Chosen.{Whole, whole-chosen}
 use Rattle.planning.proofs.Parts.{extent-end, own-rises, own-back}
-
--- a body that is accepted under its tag, and names these rows
-pub record Holds (tag span : ℕ) (rows body : List ℕ) : Type 0 where
-  pub accepted : accepts tag span body ≡ true
-  pub named : names tag span body ≡ rows
 
 -- ---- a body of which the header reads as a view, and of which the rest is the layout of a list
 
@@ -68,10 +64,10 @@ module _ {tag span : ℕ} {v : View} {own body : List ℕ} (w : Written tag span
   view-there = both-true _ _ (le-leb _ _ (w .room)) (both-true _ _ (le-leb _ _ (w .inside)) (both-true _ _ local-there ends-there))
 
   written-holds : {rows : List ℕ} → eqb tag 9 ≡ false → shift (v .base) own ≡ rows → Holds tag span rows body
-  unfolding accepts names singleAccepts singleNames
+  unfolding singleAccepts singleNames
   written-holds e same = record {
-    accepted = pick-false _ _ e ∙ rw (w .seen) (both-true _ _ (w .fields) view-there);
-    named = pick-false _ _ e ∙ rw (w .seen, own-named) same;
+    accepted = accepts-other tag span body (eqb-false tag 9 e) ∙ rw (w .seen) (both-true _ _ (w .fields) view-there);
+    named = names-other tag span body (eqb-false tag 9 e) ∙ rw (w .seen, own-named) same;
   }
 
 -- ---- what each tag wants of a list, beside that it has 1 to 65,535 positions that rise below the span

@@ -15,11 +15,12 @@ use Rattle.model.proofs.Tests.{either, both-left, both-right, pick-most, pick-t
 use Rattle.cost.specs.declared.Form.{Form}
 use Rattle.cost.proofs.Stated.{stated-whole}
 use Rattle.gather_core.proofs.Admitted.{passes}
+use Rattle.bodies.specs.Bodies.{Holds}
 use Rattle.planning.specs.Refusals.{coverageFits, countFits, rowsFit, givenFit, roomFits, earlyNumber}
 use Rattle.planning.specs.Segments.{statsEach}
 use Rattle.planning.specs.Bodies.{segmentedForm, segmentedLayout, formFor, bodyOf}
 use Rattle.planning.specs.Planning.{plannedForm, lateNumber, planNumber}
-use Rattle.planning.proofs.Singly.{Holds, whole-holds}
+use Rattle.planning.proofs.Singly.{whole-holds}
 use Rattle.planning.proofs.Choosing.{Choice, in-segments, as-whole, choice}
 
 -- ---- the body of a choice

@@ -12,9 +12,9 @@ use Rattle.stats.specs.Statistics.{statsOf}
 use Rattle.cost.specs.declared.Form.{Form}
 use Rattle.cost.specs.Sizes.{depthOf}
 use Rattle.cost.specs.Forms.{localForm, wholeForm, orderOf, lex}
-use Rattle.forms.specs.Forms.{localLayout}
 use Rattle.single.specs.Layout.{firstOf, extentOf, singleLayout}
 use Rattle.directory.specs.Layout.{Plan, directoryLayout}
+use Rattle.segmented.specs.Cuts.{Segment, payload}
 use Rattle.planning.specs.Segments.{statsEach}
 
 -- ---- the costs of segments
@@ -50,12 +50,15 @@ segmentedForm ss = record {
 unfoldable pub segmentAt : List (List ℕ) → ℕ → List ℕ
 segmentAt segs i = getD segs i []
 
--- the rows of a segment counted from its first, in its cheapest local form
+-- the segment of rows: from its first row to its last, in its cheapest local form
 unfoldable pub tagOf : List ℕ → ℕ
 tagOf rows = localForm (statsOf rows) .tag
 
+abbrev pub segmentOf : List ℕ → Segment
+segmentOf rows = record { start = firstOf rows; span = extentOf rows; tag = tagOf rows; own = positionsOf (firstOf rows) rows }
+
 unfoldable pub payloadOf : List ℕ → List ℕ
-payloadOf rows = localLayout (tagOf rows) (extentOf rows) (positionsOf (firstOf rows) rows)
+payloadOf rows = payload (segmentOf rows)
 
 unfoldable pub entriesOf : List (List ℕ) → Plan
 entriesOf segs = record {

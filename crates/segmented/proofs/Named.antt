@@ -51,7 +51,7 @@ module _ (span : ℕ) (xs : List ℕ) (ok : segmentedAccepts span xs ≡ true) w
       record { inside = part-inside xs span i accepted-directory h q; sized = rw q (rw (payload-length directory-of i h) at s) }
 
   module _ (bytes : Bytes xs) where
-    part-bytes : (i : ℕ) → Bytes (partOf xs i)
+    pub part-bytes : (i : ℕ) → Bytes (partOf xs i)
     unfolding partOf
     part-bytes i = bytes-front (drop (offsetAt xs i) xs) (lengthAt xs i) (bytes-tail xs (offsetAt xs i) bytes)
 
