@@ -7,4 +7,5 @@ pub mod BodyToRows
 pub mod RowsToBody
 pub mod Two
 pub mod Three
+pub mod Offers
 pub mod Examples
