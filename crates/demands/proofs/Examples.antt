@@ -22,10 +22,11 @@ use Rattle.directory.specs.Directory.{directoryAccepts, segmentsFit, segmentFit
 use Rattle.directory.specs.Directory as directory-specs
 use Rattle.directory.specs.Layout.{entryLayout, directoryLayout}
 use Rattle.forms.specs.Forms.{byTag, localAccepts, localNames, localLayout}
-use Rattle.single.specs.Single.{fit, viewOf, bitmapView, trimmedMissingView, fieldsOk, namedIn, endsOk, viewAccepts, singleAccepts, singleNames}
+use Rattle.single.specs.Single.{fit, viewOf, bitmapView, trimmedMissingView, namedIn, singleNames}
 use Rattle.single.specs.Layout.{firstOf, extentOf, plainLayout, trimmedLayout, singleLayout}
 use Rattle.segmented.specs.Segmented.{segmentedAccepts, segmentedNames, partAccepts, partNames}
 use Rattle.bodies.specs.Bodies.{accepts, names}
+use Rattle.bodies.specs.Accepted.{denseBody, listBody, runsBody, trimmedTo, trimmedBitmapBody, bitmapBody, missingBody, trimmedMissingBody}
 use Rattle.rowset.specs.Calls.{asked, validateOf}
 use Rattle.stats.specs.Statistics.{statsOf, joined}
 use Rattle.cost.specs.Sizes.{binary, depthOf}
@@ -119,5 +120,5 @@ cases =
     ∷ []
 
 examples-hold : allHold cases ≡ true
-unfolding cases nothing allHold holds sameAnswer same digits both pick all tabulate flat total range below complement onto runsOf numFrom listLayout missingLayout runsBytes runsLayout bitmapLayout entryLayout directoryLayout byTag localLayout firstOf extentOf plainLayout trimmedLayout singleLayout binary depthOf statsOf joined positionsOf itemsForm bitmapForm denseForm orderOf lex keyOf lesser least localOffers localForm runsForm plainOffers trimmedOffers wholeForm upAt rises startOf seedAt seedsFit sameAt cuts windows without cutsFrom oneIf contains pairs pairsWith better best afterJoins laterOffers merged offers payload admits saves rowsAdmitted rowsSaving coverageFits countFits rowsFit givenFit endsOf roomFits earlyNumber part between cutsLeft offersFor pieces segmentsOf statsEach payloads larger deepest widest segmentedForm segmentAt tagOf payloadOf entriesOf payloadAt segmentedLayout choiceKey chosen formFor layoutBy bodyOf plannedSegments plannedOffers plannedForm plannedBody lateNumber plannedValues answered planNumber planOf impossible above early late orElse oneSeed joins added addedTo addedAll addedAllTo seeded paged pagedTo someNumber pageNumber pageAnswer pageTable gather-specs.answered kept validateOf asked accepts names singleAccepts singleNames fieldsOk viewOf viewAccepts namedIn endsOk localAccepts localNames counted shift fit denseAccepts runsAccepts runsNames runCount runsStand runFits runs-specs.fits runs-specs.least mostOf entry le has listAccepts listNames risesBelow climbs missingAccepts missingNames bitmapView trimmedMissingView bitmapAccepts exact bitsFrom named segmentedAccepts segmentedNames partAccepts partNames directoryAccepts segmentsFit segmentFits directory-specs.fits isLocal entryOf partOf endBefore namesOf pieceOf
+unfolding cases nothing allHold holds sameAnswer same digits both pick all tabulate flat total range below complement onto runsOf numFrom listLayout missingLayout runsBytes runsLayout bitmapLayout entryLayout directoryLayout byTag localLayout firstOf extentOf plainLayout trimmedLayout singleLayout binary depthOf statsOf joined positionsOf itemsForm bitmapForm denseForm orderOf lex keyOf lesser least localOffers localForm runsForm plainOffers trimmedOffers wholeForm upAt rises startOf seedAt seedsFit sameAt cuts windows without cutsFrom oneIf contains pairs pairsWith better best afterJoins laterOffers merged offers payload admits saves rowsAdmitted rowsSaving coverageFits countFits rowsFit givenFit endsOf roomFits earlyNumber part between cutsLeft offersFor pieces segmentsOf statsEach payloads larger deepest widest segmentedForm segmentAt tagOf payloadOf entriesOf payloadAt segmentedLayout choiceKey chosen formFor layoutBy bodyOf plannedSegments plannedOffers plannedForm plannedBody lateNumber plannedValues answered planNumber planOf impossible above early late orElse oneSeed joins added addedTo addedAll addedAllTo seeded paged pagedTo someNumber pageNumber pageAnswer pageTable gather-specs.answered kept validateOf asked accepts denseBody listBody runsBody trimmedTo trimmedBitmapBody bitmapBody missingBody trimmedMissingBody names singleNames viewOf namedIn localAccepts localNames counted shift fit denseAccepts runsAccepts runsNames runCount runsStand runFits runs-specs.fits runs-specs.least mostOf entry le has listAccepts listNames risesBelow climbs missingAccepts missingNames bitmapView trimmedMissingView bitmapAccepts exact bitsFrom named segmentedAccepts segmentedNames partAccepts partNames directoryAccepts segmentsFit segmentFits directory-specs.fits isLocal entryOf partOf endBefore namesOf pieceOf
 examples-hold = refl

@@ -11,9 +11,10 @@ use Rattle.search.specs.Search.{entry}
 use Rattle.lists.specs.Lists.{listAccepts, listNames, risesBelow, climbs}
 use Rattle.directory.specs.Directory.{directoryAccepts, segmentsFit, segmentFits, isLocal, entryOf, partOf, endBefore, namesOf, pieceOf}
 use Rattle.forms.specs.Forms.{byTag, localAccepts, localNames}
-use Rattle.single.specs.Single.{fit, viewOf, fieldsOk, namedIn, endsOk, viewAccepts, singleAccepts, singleNames}
+use Rattle.single.specs.Single.{fit, viewOf, namedIn, singleNames}
 use Rattle.segmented.specs.Segmented.{segmentedAccepts, segmentedNames, partAccepts, partNames}
 use Rattle.bodies.specs.Bodies.{accepts, names}
+use Rattle.bodies.specs.Accepted.{listBody}
 use Rattle.rowset.specs.Calls.{asked, rankAnswer, selectAnswer, walkLeft, segmentAnswer, valuesOf}
 use Rattle.model.specs.Answers.{accepted, over}
 use Rattle.directory.specs.Directory as directory-specs
@@ -29,29 +30,29 @@ segmented = 12 ∷ 0 ∷ 1 ∷ 0 ∷ 160 ∷ 134 ∷ 1 ∷ 0 ∷ 77 ∷ 4 ∷ 12
 -- asked: the ordinal of 4 is 1, 7 is no row; the ordinal 2 is 5, and 3 is past the end; a walk from 1 on
 
 list-rank : rankAnswer 3 10 list 4 ≡ accepted (1 ∷ [])
-unfolding rankAnswer rankOf has below asked accepts names singleAccepts singleNames fieldsOk viewOf viewAccepts namedIn endsOk localAccepts localNames byTag counted shift both pick fit listAccepts listNames risesBelow climbs all tabulate entry le
+unfolding rankAnswer rankOf has below asked accepts listBody names singleNames viewOf namedIn localAccepts localNames byTag counted shift both pick fit listAccepts listNames risesBelow climbs all tabulate entry le
 list-rank = refl
 
 list-no-rank : rankAnswer 3 10 list 7 ≡ accepted []
-unfolding rankAnswer rankOf has below asked accepts names singleAccepts singleNames fieldsOk viewOf viewAccepts namedIn endsOk localAccepts localNames byTag counted shift both pick fit listAccepts listNames risesBelow climbs all tabulate entry le
+unfolding rankAnswer rankOf has below asked accepts listBody names singleNames viewOf namedIn localAccepts localNames byTag counted shift both pick fit listAccepts listNames risesBelow climbs all tabulate entry le
 list-no-rank = refl
 
 list-select : selectAnswer 3 10 list 2 ≡ accepted (5 ∷ [])
-unfolding selectAnswer asked accepts names singleAccepts singleNames fieldsOk viewOf viewAccepts namedIn endsOk localAccepts localNames byTag counted shift both pick fit listAccepts listNames risesBelow climbs all tabulate entry le
+unfolding selectAnswer asked accepts listBody names singleNames viewOf namedIn localAccepts localNames byTag counted shift both pick fit listAccepts listNames risesBelow climbs all tabulate entry le
 list-select = refl
 
 list-no-select : selectAnswer 3 10 list 3 ≡ accepted []
-unfolding selectAnswer asked accepts names singleAccepts singleNames fieldsOk viewOf viewAccepts namedIn endsOk localAccepts localNames byTag counted shift both pick fit listAccepts listNames risesBelow climbs all tabulate entry le
+unfolding selectAnswer asked accepts listBody names singleNames viewOf namedIn localAccepts localNames byTag counted shift both pick fit listAccepts listNames risesBelow climbs all tabulate entry le
 list-no-select = refl
 
 list-walk : walkLeft 3 10 list 1 (9 ∷ 9 ∷ 9 ∷ []) ≡ 4 ∷ 5 ∷ 9 ∷ []
-unfolding walkLeft over asked accepts names singleAccepts singleNames fieldsOk viewOf viewAccepts namedIn endsOk localAccepts localNames byTag counted shift both pick fit listAccepts listNames risesBelow climbs all tabulate entry le
+unfolding walkLeft over asked accepts listBody names singleNames viewOf namedIn localAccepts localNames byTag counted shift both pick fit listAccepts listNames risesBelow climbs all tabulate entry le
 list-walk = refl
 
 segmented-rank : rankAnswer 9 200000 segmented 100300 ≡ accepted (3 ∷ [])
-unfolding rankAnswer rankOf has below asked accepts names singleAccepts singleNames fieldsOk viewOf viewAccepts namedIn endsOk localAccepts localNames byTag counted shift both pick segmentedAccepts segmentedNames partAccepts partNames directoryAccepts segmentsFit segmentFits directory-specs.fits isLocal entryOf partOf endBefore total namesOf pieceOf flat fit listAccepts listNames risesBelow climbs all tabulate entry le
+unfolding rankAnswer rankOf has below asked accepts listBody names singleNames viewOf namedIn localAccepts localNames byTag counted shift both pick segmentedAccepts segmentedNames partAccepts partNames directoryAccepts segmentsFit segmentFits directory-specs.fits isLocal entryOf partOf endBefore total namesOf pieceOf flat fit listAccepts listNames risesBelow climbs all tabulate entry le
 segmented-rank = refl
 
 segmented-entry : segmentAnswer 9 200000 segmented 0 ≡ accepted (100000 ∷ 1101 ∷ 12 ∷ 0 ∷ 20 ∷ 24 ∷ 3 ∷ [])
-unfolding segmentAnswer valuesOf asked accepts names singleAccepts singleNames fieldsOk viewOf viewAccepts namedIn endsOk localAccepts localNames byTag counted shift both pick segmentedAccepts segmentedNames partAccepts partNames directoryAccepts segmentsFit segmentFits directory-specs.fits isLocal entryOf partOf endBefore total namesOf pieceOf flat fit listAccepts listNames risesBelow climbs all tabulate entry le
+unfolding segmentAnswer valuesOf asked accepts listBody names singleNames viewOf namedIn localAccepts localNames byTag counted shift both pick segmentedAccepts segmentedNames partAccepts partNames directoryAccepts segmentsFit segmentFits directory-specs.fits isLocal entryOf partOf endBefore total namesOf pieceOf flat fit listAccepts listNames risesBelow climbs all tabulate entry le
 segmented-entry = refl
