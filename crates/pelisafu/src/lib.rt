@@ -18,6 +18,7 @@ pub use plans::pelisafu_plan_ordinals;
 pub use plans::pelisafu_plan_rows;
 pub use reading::pelisafu_rank;
 pub use reading::pelisafu_ranks;
+pub use reading::pelisafu_segment;
 pub use reading::pelisafu_segments;
 pub use reading::pelisafu_select;
 pub use reading::pelisafu_validate;
@@ -61,6 +62,14 @@ pub struct Selected {
 pub struct Filled {
     pub number: u8,
     pub written: usize,
+}
+
+// Whether there is such an entry of the directory, and the entry.
+#[repr(C)]
+pub struct Entry {
+    pub number: u8,
+    pub found: u8,
+    pub record: directory::Segment,
 }
 
 // Whether the row is deleted.

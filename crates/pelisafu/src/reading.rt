@@ -1,14 +1,16 @@
 // The C interface of reading: whole bodies, checked, asked and walked.
 use crate::Checked;
+use crate::Entry;
 use crate::Filled;
 use crate::Ranked;
 use crate::Selected;
 use directory::Segment;
 ghost use mathlib.Core.Path.{_≡_};
 ghost use lib.ListN.{length};
-ghost use Rattle.rowset.specs.Calls.{checkedOf, rankedOf, selectedOf, filledOf, validateOf, rankAnswer, ranksAnswer, ranksLeft, selectAnswer, walkAnswer, walkLeft};
+ghost use Rattle.rowset.specs.Calls.{checkedOf, rankedOf, selectedOf, filledOf, entryAnswer, validateOf, rankAnswer, ranksAnswer, ranksLeft, selectAnswer, walkAnswer, walkLeft, segmentAnswer};
+ghost use Rattle.model.specs.Answers.{refused};
 ghost use Rattle.tables.specs.Tables.{segmentsAnswer, segmentsLeft};
-ghost use Rattle.pelisafu.specs.Shown.{shownChecked, shownRanked, shownSelected, shownFilled};
+ghost use Rattle.pelisafu.specs.Shown.{shownChecked, shownRanked, shownSelected, shownFilled, shownEntry};
 
 // ---- from enums to structs
 
@@ -80,6 +82,39 @@ pub fn of_filled(c: rowset::Filled) -> Filled
     }
 }
 
+// Past the end, under another tag, or refused.
+fn no_entry(number: u8) -> Entry
+    ensures { λ r. ⌜ r ≡ shownEntry (refused number) ⌝ }
+{
+    Entry {
+        number: number,
+        found: 0,
+        record: Segment {
+            start: 0,
+            span: 0,
+            count: 0,
+            ordinal: 0,
+            offset: 0,
+            length: 0,
+            tag: 0,
+        },
+    }
+}
+
+fn of_entry(e: rowset::Entry) -> Entry
+    ensures { λ r. ⌜ r ≡ shownEntry (entryAnswer e) ⌝ }
+{
+    match e {
+        rowset::Entry::Is(s) => Entry {
+            number: 0,
+            found: 1,
+            record: s,
+        },
+        rowset::Entry::Nothing => no_entry(0),
+        rowset::Entry::Refused => no_entry(8),
+    }
+}
+
 // ---- the calls
 
 #[no_mangle]
@@ -142,4 +177,11 @@ pub extern "C" fn pelisafu_segments(
     ensures { λ _. ⌜ now (table .exit) ≡ segmentsLeft tag span (now (body .entry)) (now (table .entry)) ⌝ }
 {
     of_filled(tables::segments(tag, span, body, table))
+}
+
+#[no_mangle]
+pub extern "C" fn pelisafu_segment(tag: u8, span: u32, body: &[u8], i: usize) -> Entry
+    ensures { λ r. ⌜ r ≡ shownEntry (segmentAnswer tag span (now (body .entry)) i) ⌝ }
+{
+    of_entry(rowset::segment(tag, span, body, i))
 }
