@@ -1,16 +1,12 @@
 // The C interface of reading: whole bodies, checked, asked and walked.
 use crate::Checked;
-use crate::Entry;
 use crate::Filled;
 use crate::Ranked;
 use crate::Selected;
-use directory::Segment;
 ghost use mathlib.Core.Path.{_≡_};
 ghost use lib.ListN.{length};
-ghost use Rattle.rowset.specs.Calls.{checkedOf, rankedOf, selectedOf, filledOf, entryAnswer, validateOf, rankAnswer, ranksAnswer, ranksLeft, selectAnswer, walkAnswer, walkLeft, segmentAnswer};
-ghost use Rattle.model.specs.Answers.{refused};
-ghost use Rattle.tables.specs.Tables.{segmentsAnswer, segmentsLeft};
-ghost use Rattle.pelisafu.specs.Shown.{shownChecked, shownRanked, shownSelected, shownFilled, shownEntry};
+ghost use Rattle.rowset.specs.Calls.{checkedOf, rankedOf, selectedOf, filledOf, validateOf, rankAnswer, ranksAnswer, ranksLeft, selectAnswer, walkAnswer, walkLeft};
+ghost use Rattle.pelisafu.specs.Shown.{shownChecked, shownRanked, shownSelected, shownFilled};
 
 // ---- from enums to structs
 
@@ -82,39 +78,6 @@ pub fn of_filled(c: rowset::Filled) -> Filled
     }
 }
 
-// Past the end, under another tag, or refused.
-fn no_entry(number: u8) -> Entry
-    ensures { λ r. ⌜ r ≡ shownEntry (refused number) ⌝ }
-{
-    Entry {
-        number: number,
-        found: 0,
-        record: Segment {
-            start: 0,
-            span: 0,
-            count: 0,
-            ordinal: 0,
-            offset: 0,
-            length: 0,
-            tag: 0,
-        },
-    }
-}
-
-fn of_entry(e: rowset::Entry) -> Entry
-    ensures { λ r. ⌜ r ≡ shownEntry (entryAnswer e) ⌝ }
-{
-    match e {
-        rowset::Entry::Is(s) => Entry {
-            number: 0,
-            found: 1,
-            record: s,
-        },
-        rowset::Entry::Nothing => no_entry(0),
-        rowset::Entry::Refused => no_entry(8),
-    }
-}
-
 // ---- the calls
 
 #[no_mangle]
@@ -164,24 +127,4 @@ pub extern "C" fn pelisafu_walk(
     ensures { λ _. ⌜ now (out .exit) ≡ walkLeft tag span (now (body .entry)) from (now (out .entry)) ⌝ }
 {
     of_filled(rowset::walk(tag, span, body, from, out))
-}
-
-#[no_mangle]
-pub extern "C" fn pelisafu_segments(
-    tag: u8,
-    span: u32,
-    body: &[u8],
-    table: &mut [Segment],
-) -> Filled
-    ensures { λ r. ⌜ r ≡ shownFilled (segmentsAnswer tag span (now (body .entry)) (length (now (table .entry)))) ⌝ }
-    ensures { λ _. ⌜ now (table .exit) ≡ segmentsLeft tag span (now (body .entry)) (now (table .entry)) ⌝ }
-{
-    of_filled(tables::segments(tag, span, body, table))
-}
-
-#[no_mangle]
-pub extern "C" fn pelisafu_segment(tag: u8, span: u32, body: &[u8], i: usize) -> Entry
-    ensures { λ r. ⌜ r ≡ shownEntry (segmentAnswer tag span (now (body .entry)) i) ⌝ }
-{
-    of_entry(rowset::segment(tag, span, body, i))
 }

@@ -1,12 +1,12 @@
--- `pelisafu::reading::of_entry` meets its contract.
+-- `pelisafu::entries::of_entry` meets its contract.
 -- Assumes nothing.
 use mathlib.Core.Path.{sym, ap, _∙_}
 use Rattle.rowset.specs.declared.Entry.{Entry}
 use Rattle.rowset.specs.Calls.{valuesOf, entryAnswer}
 use Rattle.pelisafu.specs.Shown.{valueAt, someIn, segmentIn, shownEntry}
 use borrow.Author.Needs.{needs}
-use Rattle.pelisafu.proofs.reading.of_entry.Statement.{statement}
-use Rattle.pelisafu.proofs.reading.of_entry.Tie as tie
+use Rattle.pelisafu.proofs.entries.of_entry.Statement.{statement}
+use Rattle.pelisafu.proofs.entries.of_entry.Tie as tie
 
 pub of-entry-spec : {M : Type 1} → statement M
 unfolding valuesOf entryAnswer valueAt someIn segmentIn shownEntry
