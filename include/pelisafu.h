@@ -19,8 +19,8 @@
  *    6  a body longer than the limit or than 65,535 bytes
  *    7  an output that is too short
  *    8  a body that is not accepted: its tag, its bytes or its span
- *    9  deletions: row count 0 or above the block limit; in reading also: a stated count of 0 or above the row count, or
- *       a body longer than 4 and the bytes of a bitmap of all rows
+ *    9  deletions: row count 0 or above the block limit; in reading a stored body also: a stated count of 0 or above the
+ *       row count, or a body longer than 4 and the bytes of a bitmap of all rows
  *   10  deletions: a body of another count than the stated one
  *   11  a table of seed ends without room for the new ones
  *   12  a record that gathering cannot have come to
