@@ -3,6 +3,7 @@
  * that Pelisafu is a port of. Whatever does not agree is named, and ends the run. */
 #include "pelisafu.h"
 
+#include <stddef.h>
 #include <stdio.h>
 #include <stdlib.h>
 #include <string.h>
@@ -10,6 +11,8 @@
 #define NOTHING UINT32_MAX
 #define UNTOUCHED 0xA5A5A5A5u
 #define MOST_ROWS 65535u
+/* No offset of a directory reaches past more entries. */
+#define MOST_ENTRIES 4095u
 /* Rows that are asked for in one call, and rows that are asked for singly, since each call checks the whole body. */
 #define MANY 512u
 #define SINGLY 16u
@@ -25,6 +28,8 @@ typedef struct {
 
 /* The arguments that every call begins with. */
 #define SET(s) (s)->tag, (s)->span, (s)->body, (s)->length
+/* Those of a body whose span is the row count of a block. */
+#define TAG_AND_BODY(s) (s)->tag, (s)->body, (s)->length
 
 static void differ(const char *claim, int line) {
     fprintf(stderr, "reading.c:%d: does not hold: %s\n", line, claim);
@@ -150,6 +155,70 @@ static void select_one(const set *s, size_t rows, uint16_t ordinal) {
     HOLD(back.number == 0 && back.found == 1 && back.ordinal == ordinal);
 }
 
+/* Two entries of a directory, without the padding behind their last field. */
+static int same_record(const pelisafu_segment_record *a, const pelisafu_segment_record *b) {
+    return memcmp(a, b, offsetof(pelisafu_segment_record, tag) + 1) == 0;
+}
+
+static const pelisafu_segment_record no_record;
+
+/* The directory: the table has the rows of the set, single entries are those of the table, and there is none behind. */
+static void same_entries(const set *s, size_t rows, size_t offset) {
+    static pelisafu_segment_record table[MOST_ENTRIES];
+    size_t counted = 0;
+    pelisafu_filled all = pelisafu_segments(SET(s), table, MOST_ENTRIES);
+    HOLD(all.number == 0 && (all.written > 0) == (s->tag == 9));
+    for (size_t i = 0; i < all.written; i++) counted += table[i].count;
+    HOLD(counted == (s->tag == 9 ? rows : 0));
+    for (size_t i = 0; i < SINGLY && i < all.written; i++) {
+        size_t one = (offset + i * (all.written / SINGLY + 1)) % all.written;
+        pelisafu_entry entry = pelisafu_segment(SET(s), one);
+        HOLD(entry.number == 0 && entry.found == 1 && same_record(&entry.record, &table[one]));
+    }
+    pelisafu_entry behind = pelisafu_segment(SET(s), all.written), last = pelisafu_segment(SET(s), SIZE_MAX);
+    HOLD(behind.number == 0 && behind.found == 0 && same_record(&behind.record, &no_record));
+    HOLD(last.number == 0 && last.found == 0 && same_record(&last.record, &no_record));
+}
+
+/* The longest body of deletions: a bitmap of all rows of the block, with its header. */
+static size_t longest(size_t block) {
+    size_t words = (block + 63) / 64;
+    return 4 + 8 * words + 2 * ((words + 3) / 4);
+}
+
+/* The section that is not coded, with any count, tag and body beside it: no deletions, where there is a block. */
+static void no_deletions(const set *s, uint16_t block, uint16_t count) {
+    uint16_t out[2] = {7, 7};
+    uint8_t number = block == 0 ? 9 : 0;
+    pelisafu_checked checked = pelisafu_check_deletions(block, block, 0, count, TAG_AND_BODY(s));
+    HOLD(checked.number == number && checked.rows == 0);
+    pelisafu_contained contained = pelisafu_deleted(block, block, 0, count, TAG_AND_BODY(s), (uint16_t)walked[0]);
+    HOLD(contained.number == number && contained.found == 0);
+    pelisafu_filled walk = pelisafu_walk_deletions(block, block, 0, count, TAG_AND_BODY(s), 0, out, 2);
+    HOLD(walk.number == number && walk.written == 0 && out[0] == 7 && out[1] == 7);
+}
+
+/* The set as the deletions of a block that has as many rows as the span. */
+static void same_deletions(const set *s, size_t rows, size_t offset) {
+    if (s->span > MOST_ROWS) return;
+    uint16_t block = (uint16_t)s->span, count = (uint16_t)rows, part[SINGLY], from = (uint16_t)(offset % rows);
+    uint8_t coded = (uint8_t)(1 + offset % 255), number = s->length > longest(block) ? 9 : 0;
+    no_deletions(s, block, count);
+    pelisafu_checked checked = pelisafu_check_deletions(block, block, coded, count, TAG_AND_BODY(s));
+    HOLD(checked.number == number && checked.rows == (number ? 0 : count));
+    for (uint32_t beside = 0; beside < 3; beside++) {
+        uint16_t ordinal = (uint16_t)(walked[from] - 1 + beside);
+        pelisafu_contained contained = pelisafu_deleted(block, block, coded, count, TAG_AND_BODY(s), ordinal);
+        HOLD(contained.number == number && contained.found == (!number && place(rows, ordinal) != NOTHING));
+    }
+    size_t fits = number ? 0 : rows - from < SINGLY ? rows - from : SINGLY;
+    pelisafu_filled walk = pelisafu_walk_deletions(block, block, coded, count, TAG_AND_BODY(s), from, part, SINGLY);
+    HOLD(walk.number == number && walk.written == fits);
+    for (size_t i = 0; i < fits; i++) HOLD(part[i] == walked[from + i]);
+    HOLD(pelisafu_check_deletions(block, block, coded, (uint16_t)(count - 1), TAG_AND_BODY(s)).number ==
+         (number || count == 1 ? 9 : 10));
+}
+
 static void accepted(const set *s, size_t rows, size_t offset) {
     HOLD(rows >= 1 && rows <= s->span);
     walk_all(s, rows);
@@ -167,6 +236,8 @@ static void accepted(const set *s, size_t rows, size_t offset) {
     walk_part(s, rows, (uint16_t)(offset % rows), offset % (SINGLY + 1));
     walk_part(s, rows, (uint16_t)(rows - 1), SINGLY);
     walk_part(s, rows, (uint16_t)rows, SINGLY);
+    same_entries(s, rows, offset);
+    same_deletions(s, rows, offset);
 }
 
 /* Every call refuses by 8, answers 0 in all else and writes nothing. */
@@ -182,6 +253,17 @@ static void refused(const set *s, pelisafu_checked checked) {
     pelisafu_filled walk = pelisafu_walk(SET(s), 0, out, 2);
     HOLD(walk.number == 8 && walk.written == 0);
     HOLD(out[0] == UNTOUCHED && out[1] == UNTOUCHED);
+    pelisafu_segment_record table[1] = {{1, 2, 3, 4, 5, 6, 7}}, before = table[0];
+    pelisafu_filled segments = pelisafu_segments(SET(s), table, 1);
+    HOLD(segments.number == 8 && segments.written == 0 && same_record(table, &before));
+    pelisafu_entry entry = pelisafu_segment(SET(s), 0);
+    HOLD(entry.number == 8 && entry.found == 0 && same_record(&entry.record, &no_record));
+    if (s->span <= MOST_ROWS) {
+        uint16_t block = (uint16_t)s->span;
+        uint8_t number = block == 0 || s->length > longest(block) ? 9 : 8;
+        HOLD(pelisafu_check_deletions(block, block, 1, 1, TAG_AND_BODY(s)).number == number);
+        no_deletions(s, block, 1);
+    }
     same_refusal(s);
 }
 

@@ -19,8 +19,8 @@
  *    6  a body longer than the limit or than 65,535 bytes
  *    7  an output that is too short
  *    8  a body that is not accepted: its tag, its bytes or its span
- *    9  deletions: row count 0 or above the block limit; in reading also: a stated count of 0 or above the row count, or
- *       a body longer than 4 and the bytes of a bitmap of all rows
+ *    9  deletions: row count 0 or above the block limit; in reading a stored body also: a stated count of 0 or above the
+ *       row count, or a body longer than 4 and the bytes of a bitmap of all rows
  *   10  deletions: a body of another count than the stated one
  *   11  a table of seed ends without room for the new ones
  *   12  a record that gathering cannot have come to
@@ -40,7 +40,7 @@ extern "C" {
 /* ---- answers */
 
 /* A plan: the tag and the bytes of its body, the segments after merging, and the offers that merging took. Of no deletions
- * the plan is all 0: number 0 with tag 0, and no body. */
+ * the plan is all 0: number 0 with tag 0, and no body. So a plan's tag can be handed over as coded. */
 typedef struct {
     uint8_t number, tag;
     uint16_t length, segments;
@@ -95,7 +95,13 @@ typedef struct {
     uint32_t start;
     uint16_t span, count, ordinal, offset, length;
     uint8_t tag;
-} pelisafu_segment;
+} pelisafu_segment_record;
+
+/* found: 1 where there is such an entry, and then the entry; else 0. */
+typedef struct {
+    uint8_t number, found;
+    pelisafu_segment_record record;
+} pelisafu_entry;
 
 /* ---- planning: rows to the shortest body */
 
@@ -136,7 +142,10 @@ pelisafu_filled pelisafu_walk(uint8_t tag, uint32_t span, const uint8_t *body, s
 /* All entries of the directory, in order, into the front of table. Answers how many: 0 for another tag than 9. Of the 16
  * bytes of an entry the last one is padding. Refuses: 8, then 7 where the table is shorter than the directory. */
 pelisafu_filled pelisafu_segments(uint8_t tag, uint32_t span, const uint8_t *body, size_t body_len,
-                                  pelisafu_segment *table, size_t table_len);
+                                  pelisafu_segment_record *table, size_t table_len);
+
+/* The i-th entry of the directory, counted from 0, where there is one: none for another tag than 9. Refuses: 8. */
+pelisafu_entry pelisafu_segment(uint8_t tag, uint32_t span, const uint8_t *body, size_t body_len, size_t i);
 
 /* ---- gathering: the ends of seeds, while rows arrive */
 
@@ -157,8 +166,10 @@ uint8_t pelisafu_add_page(pelisafu_gatherer *record, uint16_t *table, size_t tab
 
 /* ---- deletions: the deleted rows of a block, as ordinals below its row count
  *
- * A block has at most block_limit rows. What is stored of its deletions is their count, the tag and the body, which the
- * reading calls take again. No deletions are not stored, so the reading calls refuse the count 0. */
+ * A block has at most block_limit rows. What is stored of its deletions is whether there are any and, where there are,
+ * their count, the tag and the body. The reading calls take them again: coded is 0 for a block without deletions, and any
+ * other number for a stored body. Where coded is 0, count, tag and body are not looked at, and of the refusals only 9 is
+ * given, for the row count alone. Of a stored body the count 0 is refused by 9. */
 
 /* Plans the deleted ordinals, strictly rising below the row count, into the front of out. With no ordinals nothing is
  * written, not even to the workspace. Refuses: 9, then as pelisafu_plan_ordinals, but 6 never. Refusal 9 leaves the
@@ -168,17 +179,17 @@ pelisafu_plan pelisafu_plan_deletions(uint16_t row_count, size_t block_limit, co
                                       uint8_t *out, size_t out_len);
 
 /* How many rows are deleted. Refuses: 9, 8, 10, in that order. */
-pelisafu_checked pelisafu_check_deletions(uint16_t row_count, size_t block_limit, uint16_t count, uint8_t tag,
-                                          const uint8_t *body, size_t body_len);
+pelisafu_checked pelisafu_check_deletions(uint16_t row_count, size_t block_limit, uint8_t coded, uint16_t count,
+                                          uint8_t tag, const uint8_t *body, size_t body_len);
 
 /* Whether the row of this ordinal is deleted. Refuses: 9, 8, 10, in that order. */
-pelisafu_contained pelisafu_deleted(uint16_t row_count, size_t block_limit, uint16_t count, uint8_t tag,
-                                    const uint8_t *body, size_t body_len, uint16_t ordinal);
+pelisafu_contained pelisafu_deleted(uint16_t row_count, size_t block_limit, uint8_t coded, uint16_t count,
+                                    uint8_t tag, const uint8_t *body, size_t body_len, uint16_t ordinal);
 
 /* The deleted ordinals from the from-th deletion on, as many as remain or fit, into the front of out. Answers how many.
  * Refuses: 9, 8, 10, in that order. */
-pelisafu_filled pelisafu_walk_deletions(uint16_t row_count, size_t block_limit, uint16_t count, uint8_t tag,
-                                        const uint8_t *body, size_t body_len, uint16_t from,
+pelisafu_filled pelisafu_walk_deletions(uint16_t row_count, size_t block_limit, uint8_t coded, uint16_t count,
+                                        uint8_t tag, const uint8_t *body, size_t body_len, uint16_t from,
                                         uint16_t *out, size_t out_len);
 
 #ifdef __cplusplus

@@ -4,7 +4,7 @@
 mod smaller;
 
 use crate::case::{Case, Verdict};
-use crate::index::deletions::{Section as Planned, plan, read};
+use crate::index::deletions::{Section as Planned, plan, read, read_empty};
 use crate::plain;
 use crate::plain::costs::bitmap_length;
 use crate::random::Random;
@@ -21,10 +21,11 @@ pub(crate) struct Deletions {
     pub(crate) ordinals: Vec<u16>,
 }
 
-/// A section to read. The span of the reading is the row count.
+/// A section to read. The span of the reading is the row count. Where `coded` is 0 it is the empty set.
 #[derive(Clone)]
 pub(crate) struct Section {
     pub(crate) block_limit: usize,
+    pub(crate) coded: u8,
     pub(crate) stated: u16,
     pub(crate) reading: Reading,
 }
@@ -36,7 +37,7 @@ impl Section {
 
     /// Row count, block limit, stated count, tag and body, as a call takes them.
     pub(crate) fn given(&self) -> (u16, usize, u16, u8, &[u8]) {
-        let Self { block_limit, stated, reading: Reading { tag, body, .. } } = self;
+        let Self { block_limit, stated, reading: Reading { tag, body, .. }, .. } = self;
         (self.row_count(), *block_limit, *stated, *tag, body)
     }
 }
@@ -118,22 +119,29 @@ pub(crate) fn limits(row_count: u16) -> [usize; 5] {
     [0, rows.saturating_sub(1), rows, 65_535, usize::MAX]
 }
 
-/// Ways to read what the original plans: other limits, stated counts, tags and lengths, few of them right.
+/// Ways to read what the original plans: other limits, stated counts, tags and lengths, few of them right. And the empty
+/// set, with each of these beside it.
 pub(crate) fn sections(set: &Deletions) -> Vec<Section> {
     let Deletions { row_count, block_limit, ordinals } = set;
+    let section = |coded, block_limit, stated, tag, body: &[u8]| {
+        let reading = Reading { tag, span: u32::from(*row_count), body: body.to_vec() };
+        Section { block_limit, coded, stated, reading }
+    };
+    let limits = [*block_limit, usize::from(*row_count).saturating_sub(1)];
+    let mut all: Vec<Section> = limits.map(|limit| section(0, limit, 0, 0, &[])).into();
     let Ok((Some(tag), body)) = plan(*row_count, *block_limit, ordinals) else {
-        return Vec::new();
+        return all;
     };
     let count = ordinals.len() as u16;
     let bound = 4 + bitmap_length(u64::from(*row_count)) as usize;
     let padded = [&body[..], &vec![0; bound + 1 - body.len()]].concat();
-    let mut all = Vec::new();
     for stated in [count, 0, count.wrapping_add(1), count - 1, u16::MAX] {
-        for block_limit in [*block_limit, usize::from(*row_count) - 1] {
+        for limit in limits {
             for (tag, body) in [(tag, &body), (tag, &padded), (tag ^ 1, &body)] {
-                let reading = Reading { tag, span: u32::from(*row_count), body: body.clone() };
-                all.push(Section { block_limit, stated, reading });
+                let coded = [1, 2, u8::MAX][all.len() % 3];
+                all.push(section(coded, limit, stated, tag, body));
             }
+            all.push(section(0, limit, stated, tag, &body));
         }
     }
     all
@@ -165,7 +173,11 @@ fn compare_reading(section: &Section, tally: &mut Tally) -> Result<(), String> {
 /// The deleted ordinals of a section, or the number of its refusal, as the original and the plain rule both say.
 pub(crate) fn deleted(section: &Section) -> Result<Result<Vec<u16>, u8>, String> {
     let (row_count, block_limit, stated, tag, body) = section.given();
-    match (read(row_count, block_limit, stated, tag, body), plain_read(section)) {
+    let theirs = match section.coded {
+        0 => read_empty(row_count, block_limit),
+        _ => read(row_count, block_limit, stated, tag, body),
+    };
+    match (theirs, plain_read(section)) {
         (Ok(theirs), Ok(plain)) if theirs.iter().copied().map(u64::from).eq(plain.clone()) => {
             Ok(Ok(theirs))
         }
@@ -174,16 +186,17 @@ pub(crate) fn deleted(section: &Section) -> Result<Result<Vec<u16>, u8>, String>
     }
 }
 
-/// Document 01's reading of deletions: 9, then 8, then 10.
+/// Document 01's reading of deletions: 9, of an empty section for the row count alone, then 8, then 10.
 fn plain_read(section: &Section) -> Result<Vec<u64>, u8> {
     let (row_count, block_limit, stated, tag, body) = section.given();
     let span = u64::from(row_count);
-    if row_count == 0
-        || usize::from(row_count) > block_limit
-        || stated == 0
-        || stated > row_count
-        || body.len() as u64 > 4 + bitmap_length(span)
-    {
+    if row_count == 0 || usize::from(row_count) > block_limit {
+        return Err(9);
+    }
+    if section.coded == 0 {
+        return Ok(Vec::new());
+    }
+    if stated == 0 || stated > row_count || body.len() as u64 > 4 + bitmap_length(span) {
         return Err(9);
     }
     let rows = plain::reading::read(tag, span, body).ok_or(8)?;

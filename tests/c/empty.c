@@ -40,9 +40,11 @@ static void reading(void) {
         expect("select", pelisafu_select(tag, 5, NULL, 0, 4).number, wanted);
         expect("walk", pelisafu_walk(tag, 5, NULL, 0, 0, NULL, 0).number, wanted);
         expect("segments", pelisafu_segments(tag, 5, NULL, 0, NULL, 0).number, wanted);
+        expect("segment", pelisafu_segment(tag, 5, NULL, 0, 0).number, wanted);
     }
     expect("rows", pelisafu_validate(1, 5, NULL, 0).rows, 5);
     expect("found", pelisafu_rank(1, 5, NULL, 0, 4).found, 1);
+    expect("no entry", pelisafu_segment(1, 5, NULL, 0, 0).found, 0);
     expect("no table", pelisafu_segments(9, 10, (const uint8_t *)"\1\0\1\0\0\0\0\0\2\0\1\0\0\0\24\0\2\0\3\0\1\0", 22, NULL, 0).number, 7);
 }
 
@@ -67,12 +69,27 @@ static void deletions(void) {
     expect("no workspace", pelisafu_plan_deletions(9, 9, ordinals, 2, NULL, 0, out, 16).number, 5);
     expect("no output", pelisafu_plan_deletions(9, 9, ordinals, 2, work, 24, NULL, 0).number, 7);
     /* all rows of the block are deleted: a dense set, whose body is empty */
-    expect("check", pelisafu_check_deletions(5, 5, 5, 1, NULL, 0).rows, 5);
-    expect("deleted", pelisafu_deleted(5, 5, 5, 1, NULL, 0, 4).found, 1);
-    expect("walk", pelisafu_walk_deletions(5, 5, 5, 1, NULL, 0, 0, NULL, 0).number, 0);
-    expect("another count", pelisafu_check_deletions(5, 5, 4, 1, NULL, 0).number, 10);
-    expect("another tag", pelisafu_deleted(5, 5, 4, 0, NULL, 0, 4).number, 8);
-    expect("count 0", pelisafu_walk_deletions(5, 5, 0, 0, NULL, 0, 0, NULL, 0).number, 9);
+    expect("check", pelisafu_check_deletions(5, 5, 1, 5, 1, NULL, 0).rows, 5);
+    expect("deleted", pelisafu_deleted(5, 5, 1, 5, 1, NULL, 0, 4).found, 1);
+    expect("walk", pelisafu_walk_deletions(5, 5, 1, 5, 1, NULL, 0, 0, NULL, 0).number, 0);
+    expect("another count", pelisafu_check_deletions(5, 5, 1, 4, 1, NULL, 0).number, 10);
+    expect("another tag", pelisafu_deleted(5, 5, 1, 4, 0, NULL, 0, 4).number, 8);
+    expect("count 0", pelisafu_walk_deletions(5, 5, 1, 0, 0, NULL, 0, 0, NULL, 0).number, 9);
+}
+
+/* A section that is not coded: whatever its count and tag, it is the empty set. */
+static void empty_sections(void) {
+    uint16_t out[2] = {7, 7};
+    for (unsigned tag = 0; tag < 256; tag++) {
+        expect("check", pelisafu_check_deletions(5, 5, 0, 5 * tag, tag, NULL, 0).number, 0);
+        expect("rows", pelisafu_check_deletions(5, 5, 0, 5 * tag, tag, NULL, 0).rows, 0);
+        expect("deleted", pelisafu_deleted(5, 5, 0, 5 * tag, tag, NULL, 0, 4).number, 0);
+        expect("found", pelisafu_deleted(5, 5, 0, 5 * tag, tag, NULL, 0, 4).found, 0);
+        expect("walk", pelisafu_walk_deletions(5, 5, 0, 5 * tag, tag, NULL, 0, 0, out, 2).number, 0);
+        expect("written", (unsigned)pelisafu_walk_deletions(5, 5, 0, 5 * tag, tag, NULL, 0, 0, NULL, 0).written, 0);
+        expect("no block", pelisafu_check_deletions(5, 4, 0, 5 * tag, tag, NULL, 0).number, 9);
+    }
+    expect("output", out[0] + out[1], 14);
 }
 
 int main(void) {
@@ -80,6 +97,7 @@ int main(void) {
     reading();
     gathering();
     deletions();
+    empty_sections();
     if (!failed) puts("empty slices taken");
     return failed;
 }

@@ -1,5 +1,4 @@
-// The C interface of the deletion view. A section goes over as the stated count and the tag. No deletions have no section: what
-// planning answers of none, tag 0, is not to be read, and reading refuses the count 0.
+// The C interface of the deletion view. A section goes over as three numbers: whether it is coded, the stated count and the tag.
 use crate::Checked;
 use crate::Contained;
 use crate::Filled;
@@ -11,16 +10,19 @@ use deletion::Struck;
 ghost use mathlib.Core.Path.{_≡_};
 ghost use lib.ListN.{length};
 ghost use Rattle.model.specs.Answers.{refused};
-ghost use Rattle.deletion.specs.declared.Section.the-variants.{Coded};
 ghost use Rattle.deletion.specs.Reading.{countedOf, containedOf, checkAnswer, containsAnswer, walkAnswer, walkLeft};
 ghost use Rattle.deletion.specs.Striking.{struckOf, strikeOf, strikeOut, strikeWork};
-ghost use Rattle.pelisafu.specs.Shown.{shownPlan, shownChecked, shownFilled, shownContained};
+ghost use Rattle.pelisafu.specs.Shown.{shownPlan, shownChecked, shownFilled, shownContained, sectionOf};
 
 // ---- to and from enums
 
-fn section(count: u16, tag: u8) -> Section
-    ensures { λ r. ⌜ r ≡ Coded count tag ⌝ }
+// Of the empty set, count and tag are not looked at.
+fn section(coded: u8, count: u16, tag: u8) -> Section
+    ensures { λ r. ⌜ r ≡ sectionOf coded count tag ⌝ }
 {
+    if coded == 0 {
+        return Section::Empty;
+    }
     Section::Coded {
         count: count,
         tag: tag,
@@ -108,41 +110,44 @@ pub extern "C" fn pelisafu_plan_deletions(
 pub extern "C" fn pelisafu_check_deletions(
     rows: u16,
     limit: usize,
+    coded: u8,
     count: u16,
     tag: u8,
     body: &[u8],
 ) -> Checked
-    ensures { λ r. ⌜ r ≡ shownChecked (checkAnswer rows limit (Coded count tag) (now (body .entry))) ⌝ }
+    ensures { λ r. ⌜ r ≡ shownChecked (checkAnswer rows limit (sectionOf coded count tag) (now (body .entry))) ⌝ }
 {
-    of_counted(deletion::check_deletions(rows, limit, section(count, tag), body))
+    of_counted(deletion::check_deletions(rows, limit, section(coded, count, tag), body))
 }
 
 #[no_mangle]
 pub extern "C" fn pelisafu_deleted(
     rows: u16,
     limit: usize,
+    coded: u8,
     count: u16,
     tag: u8,
     body: &[u8],
     ordinal: u16,
 ) -> Contained
-    ensures { λ r. ⌜ r ≡ shownContained (containsAnswer rows limit (Coded count tag) (now (body .entry)) ordinal) ⌝ }
+    ensures { λ r. ⌜ r ≡ shownContained (containsAnswer rows limit (sectionOf coded count tag) (now (body .entry)) ordinal) ⌝ }
 {
-    of_contained(deletion::contains(rows, limit, section(count, tag), body, ordinal))
+    of_contained(deletion::contains(rows, limit, section(coded, count, tag), body, ordinal))
 }
 
 #[no_mangle]
 pub extern "C" fn pelisafu_walk_deletions(
     rows: u16,
     limit: usize,
+    coded: u8,
     count: u16,
     tag: u8,
     body: &[u8],
     from: u16,
     out: &mut [u16],
 ) -> Filled
-    ensures { λ r. ⌜ r ≡ shownFilled (walkAnswer rows limit (Coded count tag) (now (body .entry)) from (length (now (out .entry)))) ⌝ }
-    ensures { λ _. ⌜ now (out .exit) ≡ walkLeft rows limit (Coded count tag) (now (body .entry)) from (now (out .entry)) ⌝ }
+    ensures { λ r. ⌜ r ≡ shownFilled (walkAnswer rows limit (sectionOf coded count tag) (now (body .entry)) from (length (now (out .entry)))) ⌝ }
+    ensures { λ _. ⌜ now (out .exit) ≡ walkLeft rows limit (sectionOf coded count tag) (now (body .entry)) from (now (out .entry)) ⌝ }
 {
-    of_filled(deletion::walk_deletions(rows, limit, section(count, tag), body, from, out))
+    of_filled(deletion::walk_deletions(rows, limit, section(coded, count, tag), body, from, out))
 }

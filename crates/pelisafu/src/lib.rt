@@ -2,6 +2,7 @@
 // enum, so each answers a struct: the number of the refusal, 0 for none, and the values, 0 where there are none.
 // The records that a host lends, directory::Segment and gather::Gatherer, are the crates' own.
 mod deletions;
+mod entries;
 mod gathering;
 mod plans;
 mod reading;
@@ -10,6 +11,8 @@ pub use deletions::pelisafu_check_deletions;
 pub use deletions::pelisafu_deleted;
 pub use deletions::pelisafu_plan_deletions;
 pub use deletions::pelisafu_walk_deletions;
+pub use entries::pelisafu_segment;
+pub use entries::pelisafu_segments;
 pub use gathering::pelisafu_add_page;
 pub use gathering::pelisafu_add_row;
 pub use gathering::pelisafu_gather_page;
@@ -18,7 +21,6 @@ pub use plans::pelisafu_plan_ordinals;
 pub use plans::pelisafu_plan_rows;
 pub use reading::pelisafu_rank;
 pub use reading::pelisafu_ranks;
-pub use reading::pelisafu_segments;
 pub use reading::pelisafu_select;
 pub use reading::pelisafu_validate;
 pub use reading::pelisafu_walk;
@@ -61,6 +63,14 @@ pub struct Selected {
 pub struct Filled {
     pub number: u8,
     pub written: usize,
+}
+
+// Whether there is such an entry of the directory, and the entry.
+#[repr(C)]
+pub struct Entry {
+    pub number: u8,
+    pub found: u8,
+    pub record: directory::Segment,
 }
 
 // Whether the row is deleted.

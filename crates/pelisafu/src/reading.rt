@@ -3,11 +3,9 @@ use crate::Checked;
 use crate::Filled;
 use crate::Ranked;
 use crate::Selected;
-use directory::Segment;
 ghost use mathlib.Core.Path.{_≡_};
 ghost use lib.ListN.{length};
 ghost use Rattle.rowset.specs.Calls.{checkedOf, rankedOf, selectedOf, filledOf, validateOf, rankAnswer, ranksAnswer, ranksLeft, selectAnswer, walkAnswer, walkLeft};
-ghost use Rattle.tables.specs.Tables.{segmentsAnswer, segmentsLeft};
 ghost use Rattle.pelisafu.specs.Shown.{shownChecked, shownRanked, shownSelected, shownFilled};
 
 // ---- from enums to structs
@@ -129,17 +127,4 @@ pub extern "C" fn pelisafu_walk(
     ensures { λ _. ⌜ now (out .exit) ≡ walkLeft tag span (now (body .entry)) from (now (out .entry)) ⌝ }
 {
     of_filled(rowset::walk(tag, span, body, from, out))
-}
-
-#[no_mangle]
-pub extern "C" fn pelisafu_segments(
-    tag: u8,
-    span: u32,
-    body: &[u8],
-    table: &mut [Segment],
-) -> Filled
-    ensures { λ r. ⌜ r ≡ shownFilled (segmentsAnswer tag span (now (body .entry)) (length (now (table .entry)))) ⌝ }
-    ensures { λ _. ⌜ now (table .exit) ≡ segmentsLeft tag span (now (body .entry)) (now (table .entry)) ⌝ }
-{
-    of_filled(tables::segments(tag, span, body, table))
 }

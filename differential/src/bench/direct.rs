@@ -162,6 +162,9 @@ pub(super) fn count_by_value(rows: &[u64], table: &mut [u16]) -> usize {
     record.rows
 }
 
+/// What says that a section has a body.
+const CODED: u8 = 1;
+
 /// Row count, block limit, count, tag and body of deletions that are accepted.
 #[derive(Clone, Copy)]
 pub(super) struct Section<'a> {
@@ -177,8 +180,9 @@ impl Section<'_> {
     pub(super) fn check(self) -> u16 {
         let Self { row_count, block_limit, count, tag, body } = self;
         let (bytes, length) = (body.as_ptr(), body.len());
-        let answer =
-            unsafe { pelisafu_check_deletions(row_count, block_limit, count, tag, bytes, length) };
+        let answer = unsafe {
+            pelisafu_check_deletions(row_count, block_limit, CODED, count, tag, bytes, length)
+        };
         accepted(answer.number);
         answer.rows
     }
@@ -187,8 +191,9 @@ impl Section<'_> {
     pub(super) fn contains(self, ordinal: u16) -> bool {
         let Self { row_count, block_limit, count, tag, body } = self;
         let (bytes, length) = (body.as_ptr(), body.len());
-        let answer =
-            unsafe { pelisafu_deleted(row_count, block_limit, count, tag, bytes, length, ordinal) };
+        let answer = unsafe {
+            pelisafu_deleted(row_count, block_limit, CODED, count, tag, bytes, length, ordinal)
+        };
         accepted(answer.number);
         answer.found == 1
     }
@@ -199,7 +204,18 @@ impl Section<'_> {
         let (bytes, length) = (body.as_ptr(), body.len());
         let (room, out) = (out.len(), out.as_mut_ptr());
         let answer = unsafe {
-            pelisafu_walk_deletions(row_count, block_limit, count, tag, bytes, length, 0, out, room)
+            pelisafu_walk_deletions(
+                row_count,
+                block_limit,
+                CODED,
+                count,
+                tag,
+                bytes,
+                length,
+                0,
+                out,
+                room,
+            )
         };
         accepted(answer.number);
         answer.written

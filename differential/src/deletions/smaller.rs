@@ -46,12 +46,16 @@ impl Input for Section {
         let stated = stated.map(move |stated| with(self.block_limit, stated as u16));
         let limits = lower(self.block_limit as u64);
         let limits = limits.map(move |limit| with(limit as usize, self.stated));
-        bodies.chain(stated).chain(limits)
+        let coded = lower(u64::from(self.coded));
+        let coded = coded.map(move |coded| Self { coded: coded as u8, ..self.clone() });
+        bodies.chain(stated).chain(limits).chain(coded)
     }
 
     fn shown(&self) -> String {
-        let Self { block_limit, stated, reading } = self;
+        let Self { block_limit, coded, stated, reading } = self;
         let reading = reading.shown();
-        format!("Section {{ block_limit: {block_limit}, stated: {stated}, reading: {reading} }}")
+        format!(
+            "Section {{ block_limit: {block_limit}, coded: {coded}, stated: {stated}, reading: {reading} }}"
+        )
     }
 }

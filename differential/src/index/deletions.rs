@@ -34,10 +34,20 @@ pub(crate) fn read(
                 _ => No::Payload,
             }
         })?;
+    Ok(deleted(set))
+}
+
+/// Reads a section without deletions: the original makes an empty set of a block that may have so many rows.
+pub(crate) fn read_empty(row_count: u16, block_limit: usize) -> Result<Vec<u16>, No> {
+    set_block_limit(block_limit);
+    asserting(|| Ok(deleted(OrdinalDeletionSet::empty(row_count).as_ref())))
+}
+
+fn deleted(set: OrdinalDeletionSetRef) -> Vec<u16> {
     let deleted: Vec<u16> = set.iter().collect();
     let contained: Vec<u16> = (0..=u16::MAX).filter(|n| set.contains(*n)).collect();
     assert_eq!(deleted, contained, "the original's own two answers");
-    Ok(deleted)
+    deleted
 }
 
 /// Planning alone, for the benchmark.

@@ -1,6 +1,7 @@
 //! The calls of the static library, as include/pelisafu.h declares them, each behind a safe one.
 
 use super::memory::{Lent, LentMut};
+use std::fmt::Debug;
 
 #[repr(C)]
 pub(crate) struct Checked {
@@ -28,8 +29,8 @@ pub(crate) struct Filled {
     pub(crate) written: usize,
 }
 
-/// A directory entry in a table that is lent.
-#[derive(Clone, Copy, Debug, PartialEq, Eq)]
+/// A directory entry, in a table that is lent and in an answer.
+#[derive(Clone, Copy, Debug, Default, PartialEq, Eq)]
 #[repr(C)]
 pub(crate) struct Record {
     start: u32,
@@ -39,6 +40,13 @@ pub(crate) struct Record {
     offset: u16,
     length: u16,
     tag: u8,
+}
+
+#[repr(C)]
+struct Found {
+    number: u8,
+    found: u8,
+    record: Record,
 }
 
 #[derive(Clone, Copy, Debug, Default, PartialEq, Eq)]
@@ -99,6 +107,7 @@ unsafe extern "C" {
         table: *mut Record,
         table_length: usize,
     ) -> Filled;
+    fn pelisafu_segment(tag: u8, span: u32, body: *const u8, length: usize, i: usize) -> Found;
     pub(crate) fn pelisafu_gather_row(
         g: Gathering,
         table: *mut u16,
@@ -131,12 +140,12 @@ unsafe extern "C" {
 pub(crate) type Told<T> = Result<Option<T>, u8>;
 
 /// A value that is not there is 0.
-pub(super) fn told(number: u8, found: u8, value: u64) -> Told<u64> {
-    match (number, found, value) {
-        (0, 1, value) => Ok(Some(value)),
-        (0, 0, 0) => Ok(None),
-        (number @ 1.., 0, 0) => Err(number),
-        wrong => panic!("no answer: {wrong:?}"),
+pub(super) fn told<T: Default + PartialEq + Debug>(number: u8, found: u8, value: T) -> Told<T> {
+    match (number, found, value == T::default()) {
+        (0, 1, _) => Ok(Some(value)),
+        (0, 0, true) => Ok(None),
+        (number @ 1.., 0, true) => Err(number),
+        _ => panic!("no answer: number {number}, found {found}, {value:?}"),
     }
 }
 
@@ -220,6 +229,13 @@ impl Body<'_> {
         let (body, mut table) = (Lent::new(bytes), LentMut::new(table));
         let (body, table) = (body.pointer(), table.pointer());
         unsafe { pelisafu_segments(tag, span, body, bytes.len(), table, room) }.told()
+    }
+
+    pub(crate) fn segment(self, i: usize) -> Told<Record> {
+        let Self { tag, span, bytes } = self;
+        let body = Lent::new(bytes);
+        let answer = unsafe { pelisafu_segment(tag, span, body.pointer(), bytes.len(), i) };
+        told(answer.number, answer.found, answer.record)
     }
 }
 

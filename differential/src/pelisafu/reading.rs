@@ -67,7 +67,7 @@ pub(super) fn compare_walks<T: Canary + PartialEq + Debug>(
 ) -> Result<usize, String> {
     let count = list.len();
     let mut walks = 0;
-    for from in [0, 1, count / 2, count - 1, count, 65_535] {
+    for from in [0, 1, count / 2, count.saturating_sub(1), count, 65_535] {
         let rest = list.get(from..).unwrap_or(&[]);
         for room in [0, 1, rest.len() / 2, rest.len(), rest.len() + 5] {
             let written = room.min(rest.len());
@@ -88,6 +88,7 @@ fn compare_refused(body: Body, tally: &mut Tally) -> Result<(), String> {
     for asked in [0, 1, 65_535] {
         same("rank", body.rank(u32::from(asked)), Err(8))?;
         same("select", body.select(asked), Err(8))?;
+        same("segment", body.segment(usize::from(asked)), Err(8))?;
     }
     for room in [0, 1, 5] {
         let mut out = canaries(room);
@@ -167,7 +168,8 @@ impl<'a> Answers<'a> {
         Ok(())
     }
 
-    /// All entries into a table with room to spare, an exact one, and one that is too short.
+    /// All entries into a table with room to spare, an exact one, and one that is too short; each entry singly, and none
+    /// behind the last one.
     fn compare_entries(&self, tally: &mut Tally) -> Result<(), String> {
         let entries = self.set.entries();
         let mut expected = canaries(entries.len() + 3);
@@ -184,6 +186,11 @@ impl<'a> Answers<'a> {
             let mut short = canaries(less);
             same("segments into less", self.body.segments(&mut short), Err(7))?;
             same("the table of segments into less", short, canaries(less))?;
+        }
+        let ends = [0, entries.len().saturating_sub(1), entries.len(), 65_535, 65_536, usize::MAX];
+        for i in (0..entries.len()).step_by(self.every).chain(ends) {
+            let right = entries.get(i).copied().map(Record::from);
+            same(&format!("segment {i}"), self.body.segment(i), Ok(right))?;
         }
         tally.entries += entries.len();
         Ok(())

@@ -25,6 +25,7 @@ unsafe extern "C" {
     pub(crate) fn pelisafu_check_deletions(
         row_count: u16,
         block_limit: usize,
+        coded: u8,
         count: u16,
         tag: u8,
         body: *const u8,
@@ -33,6 +34,7 @@ unsafe extern "C" {
     pub(crate) fn pelisafu_deleted(
         row_count: u16,
         block_limit: usize,
+        coded: u8,
         count: u16,
         tag: u8,
         body: *const u8,
@@ -42,6 +44,7 @@ unsafe extern "C" {
     pub(crate) fn pelisafu_walk_deletions(
         row_count: u16,
         block_limit: usize,
+        coded: u8,
         count: u16,
         tag: u8,
         body: *const u8,
@@ -68,26 +71,33 @@ pub(super) fn plan_deletions(set: &Deletions, means: Means) -> Planned {
 impl Section {
     pub(super) fn check(&self) -> Told<u64> {
         let (rows, limit, count, tag, bytes) = self.given();
+        let coded = self.coded;
         let body = Lent::new(bytes);
         let body = body.pointer();
-        unsafe { pelisafu_check_deletions(rows, limit, count, tag, body, bytes.len()) }.told()
+        unsafe { pelisafu_check_deletions(rows, limit, coded, count, tag, body, bytes.len()) }
+            .told()
     }
 
     /// Something where the ordinal is deleted.
     pub(super) fn deleted(&self, ordinal: u16) -> Told<u64> {
         let (rows, limit, count, tag, bytes) = self.given();
+        let coded = self.coded;
         let body = Lent::new(bytes);
         let (body, length) = (body.pointer(), bytes.len());
-        let answer = unsafe { pelisafu_deleted(rows, limit, count, tag, body, length, ordinal) };
+        let answer =
+            unsafe { pelisafu_deleted(rows, limit, coded, count, tag, body, length, ordinal) };
         told(answer.number, answer.found, u64::from(answer.found))
     }
 
     pub(super) fn walk(&self, from: u16, out: &mut [u16]) -> Told<u64> {
         let (rows, limit, count, tag, bytes) = self.given();
+        let coded = self.coded;
         let (length, room) = (bytes.len(), out.len());
         let (body, mut out) = (Lent::new(bytes), LentMut::new(out));
         let (body, out) = (body.pointer(), out.pointer());
-        unsafe { pelisafu_walk_deletions(rows, limit, count, tag, body, length, from, out, room) }
-            .told()
+        unsafe {
+            pelisafu_walk_deletions(rows, limit, coded, count, tag, body, length, from, out, room)
+        }
+        .told()
     }
 }

@@ -73,13 +73,13 @@ fn check_deletions() -> Result<(), String> {
     comes_to(set, late, small.shown())?;
     let body = (0..90u16).flat_map(|n| (5 * n).to_le_bytes()).collect();
     let reading = Reading { tag: 3, span: 1_000, body };
-    let section = Section { block_limit: 2_000, stated: 90, reading };
+    let section = Section { block_limit: 2_000, coded: 9, stated: 90, reading };
     let counted = |section: &Section| {
         let (rows, _, stated, tag, body) = section.given();
         read(tag, u64::from(rows), body).is_some_and(|rows| rows.len() == usize::from(stated))
     };
     let reading = Reading { tag: 3, span: 1, body: vec![0, 0] };
-    comes_to(section, counted, Section { block_limit: 0, stated: 1, reading }.shown())
+    comes_to(section, counted, Section { block_limit: 0, coded: 0, stated: 1, reading }.shown())
 }
 
 /// A listing that is wrong where a list has two rows, far down in a long stream.

@@ -46,54 +46,39 @@ pub enum Section<'a> {
 /// ```
 #[derive(Clone, Copy)]
 pub struct Deletions<'a> {
-    rows: u16,
-    limit: usize,
-    section: Section<'a>,
+    struck: Struck<'a>,
+    count: u16,
 }
 
 impl<'a> Deletions<'a> {
     /// Checks the section of a block with so many rows, where a block may have at most `block_limit`.
     ///
     /// # Errors
-    /// [`Refusal::Block`], [`Refusal::Body`] and [`Refusal::Count`], tested in this order.
+    /// [`Refusal::Block`], [`Refusal::Body`] and [`Refusal::Count`], tested in this order. Of an empty section the row count
+    /// alone is tested, by the first.
     pub fn new(row_count: u16, block_limit: usize, section: Section<'a>) -> Result<Self, Refusal> {
-        let deletions = Self { rows: row_count, limit: block_limit, section };
-        match deletions.struck() {
-            Some(struck) => struck.check().map(drop)?,
-            // The C calls read coded sections only. Planning no deletions tests the row count, as an empty section asks for.
-            None => call(row_count, block_limit, &[], &mut [], &mut []).map(drop)?,
-        }
-        Ok(deletions)
-    }
-
-    /// None of an empty section.
-    fn struck(&self) -> Option<Struck<'a>> {
-        match self.section {
-            Section::Empty => None,
-            Section::Coded { count, tag, body } => {
-                Some(Struck { rows: self.rows, limit: self.limit, count, tag, body })
-            }
-        }
+        let struck = Struck { rows: row_count, limit: block_limit, section };
+        Ok(Self { struck, count: struck.check()? })
     }
 
     /// How many rows the block has, the deleted ones included.
     pub fn row_count(&self) -> u16 {
-        self.rows
+        self.struck.rows
     }
 
     /// The most rows that a block may have, as it was given.
     pub fn block_limit(&self) -> usize {
-        self.limit
+        self.struck.limit
     }
 
     /// What the block keeps.
     pub fn section(&self) -> Section<'a> {
-        self.section
+        self.struck.section
     }
 
-    /// How many rows are deleted.
+    /// How many rows are deleted. Known since the section was accepted.
     pub fn len(&self) -> usize {
-        self.struck().map_or(0, |struck| struck.count.into())
+        self.count.into()
     }
 
     /// Whether no row is deleted.
@@ -103,13 +88,13 @@ impl<'a> Deletions<'a> {
 
     /// Whether the row of an ordinal is deleted.
     pub fn contains(&self, ordinal: u16) -> bool {
-        self.struck().is_some_and(|struck| accepted(struck.contains(ordinal)))
+        accepted(self.struck.contains(ordinal))
     }
 
     /// Fills the front of `out` with deleted ordinals in rising order, all but the first `from`, as many as fit or remain, and
     /// answers how many.
     pub fn walk(&self, from: u16, out: &mut [u16]) -> usize {
-        self.struck().map_or(0, |struck| accepted(struck.walk(from, out)))
+        accepted(self.struck.walk(from, out))
     }
 
     /// The deleted ordinals in rising order.
@@ -121,8 +106,8 @@ impl<'a> Deletions<'a> {
 impl fmt::Debug for Deletions<'_> {
     fn fmt(&self, f: &mut fmt::Formatter<'_>) -> fmt::Result {
         f.debug_struct("Deletions")
-            .field("row_count", &self.rows)
-            .field("block_limit", &self.limit)
+            .field("row_count", &self.row_count())
+            .field("block_limit", &self.block_limit())
             .field("len", &self.len())
             .finish_non_exhaustive()
     }
@@ -214,7 +199,8 @@ impl DeletionPlan {
 
     /// The deletions, for reading. What was planned is not checked again here.
     pub fn as_deletions(&self) -> Deletions<'_> {
-        Deletions { rows: self.rows, limit: self.limit, section: self.section() }
+        let struck = Struck { rows: self.rows, limit: self.limit, section: self.section() };
+        Deletions { struck, count: self.count }
     }
 }
 

@@ -45,6 +45,13 @@ struct Filled {
     written: usize,
 }
 
+#[repr(C)]
+struct Entry {
+    number: u8,
+    found: u8,
+    record: Segment,
+}
+
 /// Where gathering stands: entries of the table in use, rows, first row of the last seed, last row.
 #[derive(Clone, Copy, Debug, Default, PartialEq, Eq)]
 #[repr(C)]
@@ -84,6 +91,7 @@ unsafe extern "C" {
     fn pelisafu_segments(
         tag: u8, span: u32, body: *const u8, body_len: usize, table: *mut Segment, table_len: usize,
     ) -> Filled;
+    fn pelisafu_segment(tag: u8, span: u32, body: *const u8, body_len: usize, i: usize) -> Entry;
     fn pelisafu_gather_row(record: Record, table: *mut u16, table_len: usize, row: u64) -> Gathered;
     fn pelisafu_gather_page(
         record: Record, table: *mut u16, table_len: usize, rows: *const u64, rows_len: usize,
@@ -153,10 +161,17 @@ impl Coded<'_> {
         let Self { tag, span, body } = self;
         let (room, room_len) = (table.as_mut_ptr(), table.len());
         // SAFETY: the pointers and lengths are those of a shared slice and of one lent alone, whose elements have
-        // the layout of pelisafu_segment and are good whatever numbers are written to them.
+        // the layout of pelisafu_segment_record and are good whatever numbers are written to them.
         let told =
             unsafe { pelisafu_segments(tag, span, body.as_ptr(), body.len(), room, room_len) };
         answer(told.number, told.written)
+    }
+
+    pub(crate) fn segment(self, i: usize) -> Result<Option<Segment>, Refusal> {
+        let Self { tag, span, body } = self;
+        // SAFETY: the pointer and length are those of a shared slice.
+        let told = unsafe { pelisafu_segment(tag, span, body.as_ptr(), body.len(), i) };
+        answer(told.number, (told.found != 0).then_some(told.record))
     }
 }
 

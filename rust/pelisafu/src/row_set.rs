@@ -168,6 +168,24 @@ impl<'a> RowSet<'a> {
         table.truncate(written);
         table
     }
+
+    /// The i-th entry of the directory of a segmented body (tag 9), counted from 0; none past the last one, and none for
+    /// every other tag.
+    ///
+    /// ```
+    /// use pelisafu::Planner;
+    ///
+    /// let rows: Vec<u64> = (0..12).map(|i| 100_000 + 100 * i).collect();
+    /// let plan = Planner::new(0..200_000).plan(&rows)?;
+    /// let set = plan.as_row_set();
+    /// let entry = set.segment(0).expect("the body is segmented");
+    /// assert_eq!((entry.start, entry.span, entry.count, entry.tag), (100_000, 1_101, 12, 3));
+    /// assert_eq!(set.segment(1), None);
+    /// # Ok::<(), pelisafu::Refusal>(())
+    /// ```
+    pub fn segment(&self, i: usize) -> Option<Segment> {
+        accepted(self.coded.segment(i))
+    }
 }
 
 /// The answer of a call on a body that has been accepted. The bytes are borrowed, so they are still the same.

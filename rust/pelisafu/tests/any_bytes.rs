@@ -24,8 +24,13 @@ fn agrees(tag: u8, span: u32, body: &[u8]) -> bool {
         assert_eq!(set.rank(*position), Some(k as u16));
         assert_eq!(set.select(k as u16), Some(*position));
     }
-    let told: usize = set.segments().iter().map(|segment| usize::from(segment.count)).sum();
+    let segments = set.segments();
+    let told: usize = segments.iter().map(|segment| usize::from(segment.count)).sum();
     assert_eq!(told, if tag == 9 { set.len() } else { 0 });
+    for i in 0..=segments.len() {
+        assert_eq!(set.segment(i), segments.get(i).copied());
+    }
+    assert_eq!(set.segment(usize::MAX), None);
     true
 }
 

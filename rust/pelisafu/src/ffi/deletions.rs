@@ -1,7 +1,7 @@
 //! The calls of the deletion view. What they ask of their caller is said in the module above.
 
 use super::{Checked, Filled, Made, Planned, answer};
-use crate::Refusal;
+use crate::{Refusal, Section};
 
 #[repr(C)]
 struct Contained {
@@ -16,51 +16,65 @@ unsafe extern "C" {
         work: *mut u32, work_len: usize, out: *mut u8, out_len: usize,
     ) -> Made;
     fn pelisafu_check_deletions(
-        row_count: u16, block_limit: usize, count: u16, tag: u8, body: *const u8, body_len: usize,
+        row_count: u16, block_limit: usize, coded: u8, count: u16, tag: u8, body: *const u8, body_len: usize,
     ) -> Checked;
     fn pelisafu_deleted(
-        row_count: u16, block_limit: usize, count: u16, tag: u8, body: *const u8, body_len: usize, ordinal: u16,
+        row_count: u16, block_limit: usize, coded: u8, count: u16, tag: u8, body: *const u8, body_len: usize,
+        ordinal: u16,
     ) -> Contained;
     fn pelisafu_walk_deletions(
-        row_count: u16, block_limit: usize, count: u16, tag: u8, body: *const u8, body_len: usize,
+        row_count: u16, block_limit: usize, coded: u8, count: u16, tag: u8, body: *const u8, body_len: usize,
         from: u16, out: *mut u16, out_len: usize,
     ) -> Filled;
 }
 
-/// Row count, block limit and a coded section, as every call that reads deletions takes them.
+/// Row count, block limit and section, as every call that reads deletions takes them.
 #[derive(Clone, Copy)]
 pub(crate) struct Struck<'a> {
     pub(crate) rows: u16,
     pub(crate) limit: usize,
-    pub(crate) count: u16,
-    pub(crate) tag: u8,
-    pub(crate) body: &'a [u8],
+    pub(crate) section: Section<'a>,
+}
+
+/// Whether it is coded, count, tag and body. Of an empty section the last three are not looked at.
+fn spelled(section: Section<'_>) -> (u8, u16, u8, &[u8]) {
+    match section {
+        Section::Empty => (0, 0, 0, &[]),
+        Section::Coded { count, tag, body } => (1, count, tag, body),
+    }
 }
 
 impl Struck<'_> {
     pub(crate) fn check(self) -> Result<u16, Refusal> {
-        let Self { rows, limit, count, tag, body } = self;
+        let Self { rows, limit, section } = self;
+        let (coded, count, tag, body) = spelled(section);
         let (bytes, length) = (body.as_ptr(), body.len());
         // SAFETY: the pointer and length are those of a shared slice.
-        let told = unsafe { pelisafu_check_deletions(rows, limit, count, tag, bytes, length) };
+        let told =
+            unsafe { pelisafu_check_deletions(rows, limit, coded, count, tag, bytes, length) };
         answer(told.number, told.rows)
     }
 
     pub(crate) fn contains(self, ordinal: u16) -> Result<bool, Refusal> {
-        let Self { rows, limit, count, tag, body } = self;
+        let Self { rows, limit, section } = self;
+        let (coded, count, tag, body) = spelled(section);
         let (bytes, length) = (body.as_ptr(), body.len());
         // SAFETY: the pointer and length are those of a shared slice.
-        let told = unsafe { pelisafu_deleted(rows, limit, count, tag, bytes, length, ordinal) };
+        let told =
+            unsafe { pelisafu_deleted(rows, limit, coded, count, tag, bytes, length, ordinal) };
         answer(told.number, told.found != 0)
     }
 
     pub(crate) fn walk(self, from: u16, out: &mut [u16]) -> Result<usize, Refusal> {
-        let Self { rows, limit, count, tag, body } = self;
+        let Self { rows, limit, section } = self;
+        let (coded, count, tag, body) = spelled(section);
         let (bytes, length) = (body.as_ptr(), body.len());
         let (room, room_len) = (out.as_mut_ptr(), out.len());
         // SAFETY: the pointers and lengths are those of a shared slice and of one lent alone.
         let told = unsafe {
-            pelisafu_walk_deletions(rows, limit, count, tag, bytes, length, from, room, room_len)
+            pelisafu_walk_deletions(
+                rows, limit, coded, count, tag, bytes, length, from, room, room_len,
+            )
         };
         answer(told.number, told.written)
     }

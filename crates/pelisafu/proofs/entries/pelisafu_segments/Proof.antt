@@ -1,4 +1,4 @@
--- `pelisafu::reading::pelisafu_segments` meets its contract: a walk of its MIR, by hand, since it takes a slice of structs. The table is passed on for good to
+-- `pelisafu::entries::pelisafu_segments` meets its contract: a walk of its MIR, by hand, since it takes a slice of structs. The table is passed on for good to
 -- `tables::segments`, and its answer to `of_filled`. All that the proof knows of the two is that they meet their contracts.
 -- Assumes nothing.
 use Rattle.tables.proofs.Walk.{_≡_, refl, ap, _∙_, ℕ, _<_, _^_, [], _∷_, List, length, URA, named, w8, w32, Val, vint, SProp, ent, sep, emp, via, fst∗, exE, snd∗, id⊢, Lft, Share, GName, Fml, ftrue, flft, Memory, Routine, Heap, WpFn, Tables, Atoms, sem, Fun, fact, givenOf, tables, tablesOf, AllOutlive, Given, ‵, raw, some, later, _⊛_, ⋆, _$_, _∵_, !, qed, by, move, keep, drop, use1, use3, split, join, pick, fsplit, fjoin, feqL, suffices, frame, await, done, look, init, forget, stop, hop, fld, from, load, addr, and-then, no-more, assigns, land, returns, enter, alloc1, alloc0, params1, pass1, pass0, free1, free0, agg, whole, sub, look-in, fmOf, WpFn-mono, owns, Is, shows, uint-makes, uint-vals, uint-tells, u8, u32, RefT, sliceVal, MutSlice, ShrSlice, Room, finally, slice-vals, mut-slice-tells, shr-slice-tells, shr-slice-copy, owned, peeks, heard, nothing, onEntry, Meets, tripleOf, Contract, Triple, calls-at, ensured, lasts, entered, cited, Stays, gave-slice, stay-none, stay-none-slice, walkOf, goes-gave-slice, goes-none, goes-none-slice, Walks, ends-at, walked, walk-meets, yes, plain}
@@ -24,10 +24,10 @@ use Rattle.pelisafu.proofs.reading.of_filled as of-filled
 use Rattle.pelisafu.proofs.reading.of_filled.Symbol as of-filled-def
 use Rattle.pelisafu.proofs.reading.of_filled.Symbol.{name as #of-filled}
 use Rattle.pelisafu.proofs.reading.of_filled.Met as of-filled-thm
-use Rattle.pelisafu.proofs.reading.pelisafu_segments.Key.{name as #pelisafu·pelisafu-segments}
-use Rattle.pelisafu.proofs.reading.pelisafu_segments as this
-use Rattle.pelisafu.proofs.reading.pelisafu_segments.Statement as stated
-use Rattle.pelisafu.proofs.reading.pelisafu_segments.Code as code
+use Rattle.pelisafu.proofs.entries.pelisafu_segments.Key.{name as #pelisafu·pelisafu-segments}
+use Rattle.pelisafu.proofs.entries.pelisafu_segments as this
+use Rattle.pelisafu.proofs.entries.pelisafu_segments.Statement as stated
+use Rattle.pelisafu.proofs.entries.pelisafu_segments.Code as code
 
 abbrev stayed : Stays (this.ended .signature .params) (this.ended .kept)
 stayed = (stay-none (λ _. u8) yes, (stay-none (λ _. u32) yes, (stay-none-slice (0 ∷ []) tt (plain (λ _. u8)) yes, (gave-slice (1 ∷ []) tt (plain (λ _. S.the-row)), tt))))
