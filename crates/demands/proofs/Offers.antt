@@ -22,13 +22,7 @@ use Rattle.planning.specs.Planning.{plannedSegments, plannedOffers, plannedForm
 use Rattle.planning.proofs.Accepted.{plan-number, plan-accepted}
 use Rattle.deletion.specs.Reading.{bodyLimit, blockFits}
 use Rattle.deletion.specs.Striking.{strikeOf}
-
--- of tag, body length, segments after merging and offers
-abbrev pub segmentsIn : Answer → ℕ
-segmentsIn a = getD (a .values) 2 0
-
-abbrev pub offersIn : Answer → ℕ
-offersIn a = getD (a .values) 3 0
+use Rattle.demands.specs.Demands.{segmentsIn, offersIn}
 
 -- ---- the seeds: those given, or the windows where none are
 

@@ -27,49 +27,46 @@ use Rattle.deletion.specs.Striking.{noDeletions, strikeOf}
 use Rattle.deletion.proofs.Bound.{planned-short, limit-short}
 use Rattle.deletion.specs.declared.Section.{Section}
 use Rattle.deletion.specs.declared.Section.the-variants.{Empty, Coded}
-use Rattle.demands.specs.Demands.{firstDue}
+use Rattle.demands.specs.Demands.{firstDue, taken, planTests}
 use Rattle.demands.proofs.Choices.{by-test, pick-number, pick-not, pick-then, pick-else}
 
 -- ---- reading: 8, then 7
 
 module _ (tag span : ℕ) (body : List ℕ) where
-  abbrev taken : Bool × ℕ
-  taken = (accepts tag span body, 8)
-
   asked-order : (w : Answer) → asked tag span body w .number ≡ pick (accepts tag span body) (w .number) 8
   unfolding asked
   asked-order w = pick-number (accepts tag span body) w (refused 8)
 
   -- 7 where the output has less room than is needed
-  room-order : (need room : ℕ) → asked tag span body (pick (leb need room) (accepted (need ∷ [])) (refused 7)) .number ≡ firstDue (taken ∷ (leb need room, 7) ∷ [])
+  room-order : (need room : ℕ) → asked tag span body (pick (leb need room) (accepted (need ∷ [])) (refused 7)) .number ≡ firstDue (taken tag span body ∷ (leb need room, 7) ∷ [])
   unfolding firstDue
   room-order need room = asked-order _ ∙ ap (λ (n : ℕ). pick (accepts tag span body) n 8) (pick-number (leb need room) (accepted (need ∷ [])) (refused 7))
 
-  pub validate-order : validateOf tag span body .number ≡ firstDue (taken ∷ [])
+  pub validate-order : validateOf tag span body .number ≡ firstDue (taken tag span body ∷ [])
   unfolding validateOf firstDue
   validate-order = asked-order _
 
-  pub rank-order : (p : ℕ) → rankAnswer tag span body p .number ≡ firstDue (taken ∷ [])
+  pub rank-order : (p : ℕ) → rankAnswer tag span body p .number ≡ firstDue (taken tag span body ∷ [])
   unfolding rankAnswer firstDue
   rank-order p = asked-order _
 
-  pub select-order : (k : ℕ) → selectAnswer tag span body k .number ≡ firstDue (taken ∷ [])
+  pub select-order : (k : ℕ) → selectAnswer tag span body k .number ≡ firstDue (taken tag span body ∷ [])
   unfolding selectAnswer firstDue
   select-order k = asked-order _
 
-  pub walk-order : (k room : ℕ) → walkAnswer tag span body k room .number ≡ firstDue (taken ∷ [])
+  pub walk-order : (k room : ℕ) → walkAnswer tag span body k room .number ≡ firstDue (taken tag span body ∷ [])
   unfolding walkAnswer firstDue
   walk-order k room = asked-order _
 
-  pub segment-order : (i : ℕ) → segmentAnswer tag span body i .number ≡ firstDue (taken ∷ [])
+  pub segment-order : (i : ℕ) → segmentAnswer tag span body i .number ≡ firstDue (taken tag span body ∷ [])
   unfolding segmentAnswer firstDue
   segment-order i = asked-order _
 
-  pub ranks-order : (positions : List ℕ) (room : ℕ) → ranksAnswer tag span body positions room .number ≡ firstDue (taken ∷ (leb (length positions) room, 7) ∷ [])
+  pub ranks-order : (positions : List ℕ) (room : ℕ) → ranksAnswer tag span body positions room .number ≡ firstDue (taken tag span body ∷ (leb (length positions) room, 7) ∷ [])
   unfolding ranksAnswer
   ranks-order positions room = room-order (length positions) room
 
-  pub segments-order : (room : ℕ) → segmentsAnswer tag span body room .number ≡ firstDue (taken ∷ (leb (length (entriesOf tag body)) room, 7) ∷ [])
+  pub segments-order : (room : ℕ) → segmentsAnswer tag span body room .number ≡ firstDue (taken tag span body ∷ (leb (length (entriesOf tag body)) room, 7) ∷ [])
   unfolding segmentsAnswer
   segments-order room = room-order (length (entriesOf tag body)) room
 
@@ -111,16 +108,10 @@ module _ (g : Gatherer) (room : ℕ) where
 -- ---- planning: 1 to 7
 
 module _ (start end : ℕ) (rows seeds : List ℕ) (limit words room : ℕ) where
-  -- the bytes of the chosen body
   abbrev bytes : ℕ
   bytes = plannedForm start end rows seeds .bytes
 
-  abbrev planTests : List (Bool × ℕ)
-  planTests =
-      (coverageFits start end, 1) ∷ (countFits rows, 2) ∷ (rowsFit start end rows, 3) ∷ (givenFit rows seeds, 4) ∷ (roomFits rows seeds words, 5)
-      ∷ (both (leb bytes limit) (leb bytes 65535), 6) ∷ (leb bytes room, 7) ∷ []
-
-  pub plan-order : planOf start end rows seeds limit words room .number ≡ firstDue planTests
+  pub plan-order : planOf start end rows seeds limit words room .number ≡ firstDue (planTests start end rows seeds limit words room)
   unfolding planNumber earlyNumber lateNumber firstDue
   plan-order =
       let later = lateNumber bytes limit room in

@@ -31,15 +31,8 @@ use Rattle.deletion.specs.Reading as section
 use Rattle.deletion.specs.Striking.{noDeletions, strikes, strikeOf, strikeOut, strikeWork}
 use Rattle.deletion.specs.declared.Section.{Section}
 use Rattle.planning.proofs.Sound.{early-most}
-use Rattle.demands.specs.Demands.{Kept}
+use Rattle.demands.specs.Demands.{Kept, written, bytesIn, Zeroed}
 use Rattle.demands.proofs.Choices.{by-test, together, pick-both, over-beyond}
-
--- how many elements an answer says were written: its first value, and of a plan the second
-abbrev pub written : Answer → ℕ
-written w = getD (w .values) 0 0
-
-abbrev pub bodyBytes : Answer → ℕ
-bodyBytes w = getD (w .values) 1 0
 
 -- ---- reading
 
@@ -87,10 +80,6 @@ module _ (g : Gatherer) (table : List ℕ) where
 
 -- ---- planning
 
--- the first 24 words a seed are zero and the rest is unchanged
-abbrev pub Zeroed : ℕ → List ℕ → List ℕ → Type 0
-Zeroed seeds old new = (seeds * 24 ≤ length old) × (new ≡ replicate (seeds * 24) 0 ++ drop (seeds * 24) old)
-
 late-numbers : (bytes limit room : ℕ) → (lateNumber bytes limit room ≡ 0) ⊎ ((6 ≤ lateNumber bytes limit room) × (lateNumber bytes limit room ≤ 7))
 unfolding lateNumber
 late-numbers bytes limit room =
@@ -126,11 +115,11 @@ module _ (start end : ℕ) (rows seeds : List ℕ) (limit : ℕ) (work out : Lis
       inl (omega (arith, some), omega (arith, early-most start end rows seeds (length work)), q))
       (either (eqb before 0))
 
-  pub plan-kept : Kept (bodyBytes answer) answer out (planOut start end rows seeds limit (length work) out)
+  pub plan-kept : Kept (bytesIn answer) answer out (planOut start end rows seeds limit (length work) out)
   unfolding planOut planning.answered planOf plannedValues
   plan-kept =
       let number = planNumber start end rows seeds limit (length work) (length out) in
-      by-test (λ (w : Answer) (new : List ℕ). Kept (bodyBytes w) w out new) (eqb number 0)
+      by-test (λ (w : Answer) (new : List ℕ). Kept (bytesIn w) w out new) (eqb number 0)
       (λ e.
       ((λ h. absurd (h refl)), over-beyond (plannedBody start end rows seeds) out _ (planned start end rows seeds limit (length work) (length out) (eqb-true number 0 e) .sized)))
       (λ e. ((λ h. refl), refl))
@@ -185,10 +174,10 @@ module _ (rows limit : ℕ) where
         rw (pick-both (section.blockFits rows limit) (leb 1 (length ordinals)) new old)
         (together P (section.blockFits rows limit) (together P (leb 1 (length ordinals)) p q) r)
 
-    pub strike-kept : Kept (bodyBytes struck) struck out (strikeOut rows limit ordinals (length work) out)
+    pub strike-kept : Kept (bytesIn struck) struck out (strikeOut rows limit ordinals (length work) out)
     unfolding strikeOut
     strike-kept =
-        struck-as (λ w new. Kept (bodyBytes w) w out new) out _
+        struck-as (λ w new. Kept (bytesIn w) w out new) out _
         (plan-kept 0 rows ordinals [] (section.bodyLimit rows) work out) ((λ h. refl), refl) ((λ h. refl), refl)
 
     -- refusals 1 to 5 and 9 leave the workspace unchanged
