@@ -5,24 +5,26 @@ use mathlib.Core.Bool.{Bool, true, false, false≢true}
 use mathlib.Core.Logic.{⊎-elim}
 use mathlib.Core.List.{List}
 use Prim.Native.Nat.{ℕ, _+_, _-_, _*_, _/_, _<_, _≤_}
+use native.Mathlib.Nat.{mul-div-cancel}
 use native.Mathlib.Omega.{arith}
 use lib.Dec.{eqb, leb}
 use lib.ListN.{length, getD, drop, length-drop}
 use borrow.Author.Tests.{eq-eqb, ne-eqb, le-leb, eqb-true, eqb-false, leb-true, leb-false}
-use Rattle.fields.specs.Le.{le}
+use Rattle.fields.specs.Le.{le, widthOf}
 use Rattle.model.specs.Tests.{both, pick}
 use Rattle.model.specs.Lists.{has, counted}
 use Rattle.model.proofs.Tests.{either, same-test, refuse, both-true, both-left, both-right, pick-true, pick-false}
 use Rattle.model.proofs.Counted.{Count, counted-count}
 use Rattle.runs.specs.Runs.{runCount, runsAccepts}
 use Rattle.bitmap.specs.Body.{bitmapAccepts, bitmapNames}
-use Rattle.forms.specs.Forms.{byTag, localAccepts, localNames}
+use Rattle.forms.specs.Forms.{byTag, listTag, runsTag, localAccepts, localNames}
 use Rattle.forms.proofs.Laws.{local-counted}
-use Rattle.forms.proofs.Tags.{Other, other-ne}
+use Rattle.forms.proofs.Tags.{Other, other-ne, by-list, by-runs}
 use Rattle.single.specs.Single.{view, fit, viewOf, bitmapView, trimmedMissingView, fieldsOk, partIn, namedIn, endsOk, viewAccepts, singleAccepts}
 use Rattle.single.specs.declared.View.{View}
 use Rattle.single.proofs.Laws.{tag-cases, other-view}
 use Rattle.single.proofs.Named.{Parts, single-parts}
+use Rattle.single.proofs.Widths.{list-view, list-fields, runs-view, runs-fields}
 use Rattle.bodies.specs.Accepted.{denseBody, listBody, runsBody, trimmedTo, trimmedBitmapBody, bitmapBody, missingBody, trimmedMissingBody, accepts}
 
 -- ---- put together: a body of which the view is known
@@ -51,6 +53,18 @@ fit-some n h =
     (λ (e : leb n 65535 ≡ false). let z : 1 ≤ 0 = rw (pick-false n 0 e) at h in absurd (omega arith))
     (either (leb n 65535))
 
+-- ---- the page, at a tag of either width
+
+page-list : (wide : Bool) (span : ℕ) (xs : List ℕ) → accepts (listTag wide) span xs ≡ listBody (widthOf wide) span xs
+unfolding accepts pick listTag widthOf
+page-list true span xs = refl
+page-list false span xs = refl
+
+page-runs : (wide : Bool) (span : ℕ) (xs : List ℕ) → accepts (runsTag wide) span xs ≡ runsBody (widthOf wide) span xs
+unfolding accepts pick runsTag widthOf
+page-runs true span xs = refl
+page-runs false span xs = refl
+
 module _ (span : ℕ) (xs : List ℕ) where
   -- the tests of a tag are those of the page
   abbrev Same : ℕ → Type 0
@@ -74,13 +88,9 @@ module _ (span : ℕ) (xs : List ℕ) where
   unfolding accepts denseBody localAccepts byTag viewOf fieldsOk pick
   dense-same = bare 1 span _ refl refl refl
 
-  list32-same : Same 2
-  unfolding accepts listBody localAccepts byTag viewOf fieldsOk pick
-  list32-same = bare 2 (length xs / 4) _ refl refl refl
-
-  list16-same : Same 3
-  unfolding accepts listBody localAccepts byTag viewOf fieldsOk pick
-  list16-same = bare 3 (length xs / 2) _ refl refl refl
+  list-same : (wide : Bool) → Same (listTag wide)
+  unfolding localAccepts listBody
+  list-same wide = page-list wide span xs ∙ bare (listTag wide) (length xs / widthOf wide) _ (list-view wide span xs) (list-fields wide xs) (sym (by-list wide _))
 
   -- behind a header of four bytes that states the count
   headed : (tag : ℕ) (page : Bool) → viewOf tag span xs ≡ view tag false 0 span (le 2 xs 0) 4
@@ -103,23 +113,19 @@ module _ (span : ℕ) (xs : List ℕ) where
       let sized : (length xs - 4) / (w + 4) * (w + 4) ≡ length xs - 4 = rw (length-drop 4 xs) at (eqb-true (length (drop 4 xs) / (w + 4) * (w + 4)) (length (drop 4 xs)) test) in
       rw (e, sized) (omega arith)
 
-  runs16-same : Same 4
-  unfolding accepts runsBody localAccepts byTag viewOf fieldsOk pick
-  runs16-same =
-      headed 4 _ refl
+  runs-same : (wide : Bool) → Same (runsTag wide)
+  unfolding runsBody localAccepts
+  runs-same wide =
+      page-runs wide span xs
+      ∙ headed (runsTag wide) _ (runs-view wide span xs)
       (λ ok.
-      let size : length xs ≡ 4 + le 2 xs 2 * 6 = eqb-true _ _ (both-left _ _ ok) in
-      (omega arith, eq-eqb (le 2 xs 2) ((length xs - 4) / 6) (omega arith), both-right _ _ ok))
-      (λ h fields ok. both-true _ _ (eq-eqb _ _ (whole-entries 2 (le 2 xs 2) _ ok h (eqb-true _ _ fields))) ok)
-
-  runs32-same : Same 5
-  unfolding accepts runsBody localAccepts byTag viewOf fieldsOk pick
-  runs32-same =
-      headed 5 _ refl
-      (λ ok.
-      let size : length xs ≡ 4 + le 2 xs 2 * 8 = eqb-true _ _ (both-left _ _ ok) in
-      (omega arith, eq-eqb (le 2 xs 2) ((length xs - 4) / 8) (omega arith), both-right _ _ ok))
-      (λ h fields ok. both-true _ _ (eq-eqb _ _ (whole-entries 4 (le 2 xs 2) _ ok h (eqb-true _ _ fields))) ok)
+      let size : length xs ≡ 4 + le 2 xs 2 * (widthOf wide + 4) = eqb-true _ _ (both-left _ _ ok) in
+      let rest : length xs - 4 ≡ le 2 xs 2 * (widthOf wide + 4) = omega arith in
+      let runs : (length xs - 4) / (widthOf wide + 4) ≡ le 2 xs 2 = rw rest (mul-div-cancel (le 2 xs 2) (omega arith)) in
+      (omega arith, runs-fields wide xs ∙ eq-eqb _ _ (sym runs), by-runs wide _ ∙ both-right _ _ ok))
+      (λ h fields ok.
+      let local : runsAccepts (widthOf wide) (drop 4 xs) span (le 2 xs 0) ≡ true = sym (by-runs wide _) ∙ ok in
+      both-true _ _ (eq-eqb _ _ (whole-entries (widthOf wide) (le 2 xs 2) _ local h (eqb-true _ _ (sym (runs-fields wide xs) ∙ fields)))) local)
 
   missing-same : Same 7
   unfolding accepts missingBody localAccepts byTag viewOf fieldsOk pick
@@ -203,7 +209,8 @@ module _ (span : ℕ) (xs : List ℕ) where
 
   -- every tag but 9
   pub tested : (tag : ℕ) → (tag ≡ 9 → ⊥) → accepts tag span xs ≡ singleAccepts tag span xs
+  unfolding listTag runsTag
   tested =
       tag-cases (λ (t : ℕ). (t ≡ 9 → ⊥) → Same t)
-      (λ n. dense-same) (λ n. list32-same) (λ n. list16-same) (λ n. runs16-same) (λ n. runs32-same) (λ n. bitmap-same) (λ n. missing-same) (λ n. trimmed-missing-same)
+      (λ n. dense-same) (λ n. list-same true) (λ n. list-same false) (λ n. runs-same false) (λ n. runs-same true) (λ n. bitmap-same) (λ n. missing-same) (λ n. trimmed-missing-same)
       (λ t o n. other-same t n o)
