@@ -1,4 +1,7 @@
 // From merged records: what the segmented body costs, and its bytes.
+
+#![tactic(auto)]
+
 ghost use Rattle.std.specs.Prelude.{◌≡◌, ◌+◌, ◌*◌, ◌<◌, ◌≤◌, ◌++◌, length};
 ghost use Rattle.fields.specs.Le.{digits};
 ghost use Rattle.stats.specs.Statistics.{Sound};
@@ -15,7 +18,7 @@ use directory::Segment;
 // ---- what the segments cost together
 
 // Of the segments passed: how many, the bytes of their payloads, the largest depth and words, and their statistics as one.
-#[derive(Drop)]
+#[derive(Clone, Copy)]
 pub struct Tally {
     pub segments: usize,
     pub bytes: u64,
@@ -25,7 +28,7 @@ pub struct Tally {
 }
 
 // The segments after merging, the costs of their body, and the statistics of all rows.
-#[derive(Drop)]
+#[derive(Clone, Copy)]
 pub struct Summary {
     pub segments: usize,
     pub form: cost::Form,

@@ -1,4 +1,7 @@
 // The local bitmap form: rows before each 256 positions, then 64-bit words. Every reader answers on any bytes of the right length.
+
+#![tactic(auto)]
+
 ghost use Rattle.std.specs.Prelude.{◌≡◌, ◌+◌, ◌-◌, ◌*◌, ◌^◌, ◌<◌, ◌≤◌, min, length, take, ◌==◌, nat_lt};
 ghost use Rattle.model.specs.Tests.{both, all};
 ghost use Rattle.model.specs.Lists.{has, moved};
@@ -185,7 +188,7 @@ fn group_for(body: &[u8], span: u32, k: u16) -> usize
 }
 
 // A row of a word: the word's index, and the row's number in it.
-#[derive(Drop)]
+#[derive(Clone, Copy)]
 pub struct Spot {
     pub index: usize,
     pub left: u32,
@@ -234,7 +237,7 @@ pub fn select(body: &[u8], span: u32, k: u16) -> u32
 }
 
 // A word, and what is left of it.
-#[derive(Drop)]
+#[derive(Clone, Copy)]
 pub struct Cursor {
     pub index: usize,
     pub word: u64,

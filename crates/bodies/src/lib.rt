@@ -1,4 +1,7 @@
 // A body of any tag: whether it is accepted, and what an accepted one answers. Tag 9 is a directory of parts, every other tag one local form.
+
+#![tactic(auto)]
+
 ghost use Rattle.std.specs.Prelude.{◌≡◌, true, ◌<◌, ◌≤◌, length, get_or};
 ghost use Rattle.model.specs.Lists.{place_of, walk_of};
 ghost use Rattle.model.specs.Answers.{over, ranks_of, Walked};

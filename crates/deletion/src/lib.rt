@@ -1,5 +1,8 @@
 // The deletion view: the deleted rows of a block, as ordinals in [0, row count). Row count, section and body go together and are
 // checked by each call. A deletion's rank among the deletions is not an ordinal, and no call hands one out.
+
+#![tactic(auto)]
+
 ghost use Rattle.std.specs.Prelude.{◌≡◌, true, ℕ, ◌+◌, ◌-◌, ◌≤◌, ◌<◌, min, length, get_or, take};
 ghost use Rattle.std.proofs.lemmas.List.Edits.{sets};
 ghost use Rattle.model.specs.Tests.{pick};
@@ -16,21 +19,21 @@ use plan::{Body, Planned};
 use rowset::Filled;
 
 // No deletions, or a body of this tag that stands beside it, with the count that is stated of it.
-#[derive(Drop)]
+#[derive(Clone, Copy)]
 pub enum Section {
     Empty,
     Coded { count: u16, tag: u8 },
 }
 
 // How many rows are deleted, or the number of the refusal.
-#[derive(Drop)]
+#[derive(Clone, Copy)]
 pub enum Counted {
     Deleted(u16),
     Refused(u8),
 }
 
 // Whether a row is deleted, or the number of the refusal.
-#[derive(Drop)]
+#[derive(Clone, Copy)]
 pub enum Contained {
     Yes,
     No,
@@ -38,7 +41,7 @@ pub enum Contained {
 }
 
 // No deletions, the plan of their body, or the number of the refusal.
-#[derive(Drop)]
+#[derive(Clone, Copy)]
 pub enum Struck {
     Empty,
     Made(Body),

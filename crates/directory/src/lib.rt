@@ -1,4 +1,7 @@
 // The directory of a segmented body (tag 9). What the segments hold is no matter of this crate.
+
+#![tactic(auto)]
+
 ghost use Rattle.std.specs.Prelude.{◌≡◌, ◌+◌, ◌*◌, ◌<◌, ◌≤◌, length};
 ghost use Rattle.model.specs.Lists.{counted};
 ghost use Rattle.directory.specs.Directory.{stated_segments, starts_to, ordinals_to, zero_at, entry_of, is_local, fits, segments_fit, directory_accepts};
@@ -6,7 +9,7 @@ ghost use Rattle.directory.specs.Directory.{stated_segments, starts_to, ordinals
 // One entry of the directory: where the segment starts, its span, rows, rows before it, and where its payload lies.
 // Hosts lend tables of it, so its layout is C's.
 #[repr(C)]
-#[derive(Drop)]
+#[derive(Clone, Copy)]
 pub struct Segment {
     pub start: u32,
     pub span: u16,

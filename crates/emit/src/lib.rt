@@ -1,5 +1,8 @@
 // Bodies from rows, written into a lent slice. What writes a layout, or a part of one, answers the place behind it.
 // Here is what rows of either width share; the loops over u64 rows and over u16 ordinals are crates of their own, `emit_rows` and `emit_ordinals`.
+
+#![tactic(auto)]
+
 ghost use Rattle.std.specs.Prelude.{◌≡◌, [], ◌∷◌, ◌+◌, ◌*◌, ◌/◌, ◌%◌, ◌≤◌, min, eqb, length};
 ghost use Rattle.fields.specs.Le.{put, width_of};
 ghost use Rattle.model.specs.Lists.{range, run};
@@ -55,7 +58,7 @@ pub fn run_entry(out: &mut [u8], at: usize, start: u32, size: u16, before: u16, 
 // ---- bitmaps, word by word
 
 // The digits of the rows that stand in one word, and the index of the first row behind them.
-#[derive(Drop)]
+#[derive(Clone, Copy)]
 pub struct Word {
     pub bits: u64,
     pub next: usize,
@@ -63,14 +66,14 @@ pub struct Word {
 
 // What is known of the rows ahead: those from index start up to index stop stand one behind the other, where there are any, and
 // those before start are to go in one by one.
-#[derive(Drop)]
+#[derive(Clone, Copy)]
 pub struct Outlook {
     pub start: usize,
     pub stop: usize,
 }
 
 // A word that is through, and what is known of the rows ahead of it.
-#[derive(Drop)]
+#[derive(Clone, Copy)]
 pub struct Passed {
     pub word: Word,
     pub ahead: Outlook,

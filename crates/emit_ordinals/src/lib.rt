@@ -1,4 +1,7 @@
 // Bodies from u16 ordinals, counted from base: as from u64 rows.
+
+#![tactic(auto)]
+
 ghost use Rattle.std.specs.Prelude.{◌≡◌, true, ◌+◌, ◌-◌, ◌*◌, ◌<◌, ◌≤◌, length};
 ghost use Rattle.fields.specs.Le.{width_of};
 ghost use Rattle.model.specs.Lists.{Rising, positions_of};

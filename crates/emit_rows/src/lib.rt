@@ -1,4 +1,7 @@
 // Bodies from u64 rows, counted from base: the rows of a whole set, or of one segment as a part of its own.
+
+#![tactic(auto)]
+
 ghost use Rattle.std.specs.Prelude.{◌≡◌, true, ◌+◌, ◌-◌, ◌*◌, ◌<◌, ◌≤◌, length};
 ghost use Rattle.fields.specs.Le.{width_of};
 ghost use Rattle.model.specs.Lists.{Rising, positions_of};

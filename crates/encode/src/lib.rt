@@ -1,4 +1,7 @@
 // Whole bodies from rows: a header and a local layout, or the entries of a directory and their payloads.
+
+#![tactic(auto)]
+
 ghost use Rattle.std.specs.Prelude.{◌≡◌, ◌+◌, ◌-◌, ◌<◌, ◌≤◌, ltb, length};
 ghost use Rattle.model.specs.Tests.{pick};
 ghost use Rattle.model.specs.Lists.{Rising, runs_of, positions_of};

@@ -1,6 +1,9 @@
 // Document 01's bodies, read by the public calls, its pages and rows, gathered, and its rows, planned: each answer on a line of its own, in ten
 // digits, or a word. All that a function here does is print, and no contract can say what is printed, so none has one: what is printed is compared
 // with the file `stdout`.
+
+#![tactic(auto)]
+
 mod gathering;
 mod plans;
 

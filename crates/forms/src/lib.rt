@@ -1,4 +1,7 @@
 // The local forms by tag: 1 dense, 2 and 3 lists, 4 and 5 runs, 6 bitmap, 7 missing. Whole bodies and segments are made of them.
+
+#![tactic(auto)]
+
 ghost use Rattle.std.specs.Prelude.{◌≡◌, true, ◌-◌, ◌<◌, ◌≤◌, length};
 ghost use Rattle.model.specs.Answers.{over, ranks_in, Walked};
 ghost use Rattle.forms.specs.Forms.{local_accepts, local_sized, local_place, local_select, local_walk};

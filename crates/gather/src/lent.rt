@@ -8,14 +8,14 @@ use crate::{Gathered, gather_page, gather_row};
 use gather_core::{Gatherer, put_page};
 
 // Done, and the lent record is the new one; or the refusal's number, and it is the old one.
-#[derive(Drop)]
+#[derive(Clone, Copy)]
 pub enum Added {
     Done,
     Refused(u8),
 }
 
 // An answer, and the record that it leaves.
-#[derive(Drop)]
+#[derive(Clone, Copy)]
 pub struct Step {
     pub answer: Added,
     pub after: Gatherer,
@@ -23,7 +23,7 @@ pub struct Step {
 
 // A step, and whether it is seen that a row has joined the last seed. The record's entries and first row are then the old ones, so
 // that they need no store, and the compiled code has an end of its own for such rows. Of a page it is never said.
-#[derive(Drop)]
+#[derive(Clone, Copy)]
 pub(crate) struct Change {
     answer: Added,
     after: Gatherer,

@@ -1,4 +1,7 @@
 // Gathering: the ends of seeds, written into a lent table, with a small record of where gathering stands.
+
+#![tactic(auto)]
+
 ghost use Rattle.std.specs.Prelude.{◌≡◌, length};
 ghost use Rattle.gather_core.specs.Gather.{row_answer, row_table, page_answer, page_table};
 ghost use Rattle.gather.specs.Records.{answer_of};
@@ -11,7 +14,7 @@ use gather_core::{impossible, put_page, put_row, row_number, some_number};
 pub use lent::{Added, Step, add_page, add_row, lend_page, lend_row, tested_page, tested_row};
 
 // The new record, or the refusal's number.
-#[derive(Drop)]
+#[derive(Clone, Copy)]
 pub enum Gathered {
     Record(Gatherer),
     Refused(u8),

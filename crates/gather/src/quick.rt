@@ -28,7 +28,7 @@ fn follows(g: Gatherer, room: usize, row: u64) -> bool
 }
 
 // Where a row goes: on in the last seed, or into one that begins with it; or the number that refuses it.
-#[derive(Drop)]
+#[derive(Clone, Copy)]
 pub(crate) enum Way {
     On,
     Anew,

@@ -1,4 +1,7 @@
 // What the gatherer does with its record and the lent table. The public calls over it are those of `gather`.
+
+#![tactic(auto)]
+
 ghost use Rattle.std.specs.Prelude.{◌≡◌, ◌+◌, ◌≤◌, length, nat_lt};
 ghost use Rattle.gather_core.specs.Gather.{impossible, above, early, late, joins, added, added_to, row_number, Counted};
 
@@ -10,7 +13,7 @@ pub use rising::{rises, rises_closely};
 
 // Entries of the table in use, rows gathered, first row of the last seed, last row. Hosts lend it, so its layout is C's.
 #[repr(C)]
-#[derive(Drop)]
+#[derive(Clone, Copy)]
 pub struct Gatherer {
     pub entries: usize,
     pub rows: usize,

@@ -1,6 +1,9 @@
 // The records of the cuts that merging works on, and pairs of neighbouring segments as offers. The workspace has a record of
 // eight words for each cut from 0 to n, and the queue of offers behind them. A record holds the cut after it (0: no segment
 // starts here), the cut before it, and first, last, count and runs of the segment that starts here; two words are to spare.
+
+#![tactic(auto)]
+
 ghost use Rattle.std.specs.Prelude.{◌≡◌, true, ◌+◌, ◌*◌, ◌<◌, ◌≤◌, length, replicate};
 ghost use Rattle.model.specs.Answers.{over};
 ghost use Rattle.stats.specs.Statistics.{Neighbours};
@@ -9,7 +12,7 @@ ghost use Rattle.links.specs.Pairs.{admits, saves};
 ghost use Rattle.links.specs.Tables.{base, records, field, next, stat_at, is_live, put, put_stat, linked, Started};
 
 // A pair of neighbouring segments: where the left one starts, where they meet, where the right one ends.
-#[derive(Drop)]
+#[derive(Clone, Copy)]
 pub struct Pair {
     pub left: usize,
     pub middle: usize,

@@ -3,6 +3,9 @@
 // One pass, with two fixed buffers. `buf` holds the bytes that were read and not listed yet, at lo..hi; it is larger than any
 // record. `out` holds text that waits to be written, its first `at` bytes; it is written when little room is left, and before each
 // read but the first, so that a reader of a pipe sees the line of every record that has come. A read that fails counts as the end of the input.
+
+#![tactic(auto)]
+
 ghost use Rattle.std.specs.Prelude.{◌≡◌, ◌+◌, ◌-◌, ◌≤◌, ◌<◌, length};
 ghost use Rattle.lister.specs.Window.{Whole, Listed, Slid, stops_of};
 
@@ -10,14 +13,14 @@ use libc::{STDERR_FILENO, STDIN_FILENO, STDOUT_FILENO};
 use listing::{Line, Next, line_of, next_in, put_header, put_line};
 
 // Text that waits, and whether every write was taken.
-#[derive(Drop)]
+#[derive(Clone, Copy)]
 struct Text {
     at: usize,
     good: bool,
 }
 
 // Records are listed up to byte lo, k of them in all.
-#[derive(Drop)]
+#[derive(Clone, Copy)]
 struct Stand {
     lo: usize,
     at: usize,

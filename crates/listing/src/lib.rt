@@ -1,4 +1,7 @@
 // The listing of document 01: where a record ends, which line it gets, and the bytes of that line.
+
+#![tactic(auto)]
+
 mod records;
 mod text;
 

@@ -6,7 +6,7 @@ ghost use Rattle.listing.specs.Records.{be, sized, next_after, next_of, figures_
 use rowset::{Checked, validate};
 
 // The figures of an accepted record.
-#[derive(Drop)]
+#[derive(Clone, Copy)]
 pub struct Figures {
     pub tag: u8,
     pub span: u32,
@@ -16,7 +16,7 @@ pub struct Figures {
 }
 
 // A line of the listing after its header. Listed and Refused are a record's, and the listing goes on; each of the others is its last line.
-#[derive(Drop)]
+#[derive(Clone, Copy)]
 pub enum Line {
     Listed(Figures),
     Refused,
@@ -27,7 +27,7 @@ pub enum Line {
 
 // What stands in front of the bytes at hand: a whole record with that many bytes after its length, a length that no record
 // has, or too few bytes to tell.
-#[derive(Drop)]
+#[derive(Clone, Copy)]
 pub enum Next {
     Record(usize),
     Broken,

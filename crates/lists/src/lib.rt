@@ -1,4 +1,7 @@
 // The local forms dense and list. A list is read at either width by the same functions: `wide` is 4 bytes an item, else 2.
+
+#![tactic(auto)]
+
 ghost use Rattle.std.specs.Prelude.{◌≡◌, ◌+◌, ◌-◌, ◌*◌, ◌<◌, ◌≤◌, min, length};
 ghost use Rattle.fields.specs.Le.{width_of};
 ghost use Rattle.std.proofs.lemmas.List.Edits.{sets};

@@ -1,5 +1,8 @@
 // Seeds to segments by the plain rule, over the records of the cuts that `links` reads and writes, and the queue of offers behind
 // them.
+
+#![tactic(auto)]
+
 ghost use Rattle.std.specs.Prelude.{◌≡◌, true, ◌+◌, ◌*◌, ◌-◌, ◌<◌, ◌≤◌, length};
 ghost use Rattle.stats.specs.Statistics.{Neighbours};
 ghost use Rattle.queue.specs.Keys.{Heap};

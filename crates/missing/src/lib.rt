@@ -1,4 +1,7 @@
 // The local form missing: a list of the holes, each two bytes.
+
+#![tactic(auto)]
+
 ghost use Rattle.std.specs.Prelude.{◌≡◌, ◌+◌, ◌-◌, ◌*◌, ◌≤◌, ◌<◌, min, length, take};
 ghost use Rattle.model.specs.Answers.{over, rank_in, ranks_in, Walked};
 ghost use Rattle.model.specs.Lists.{moved};

@@ -1,8 +1,11 @@
 // What a position's place in a row set is: how many rows stand below it, and whether it is a row. And a place as one of many answers.
+
+#![tactic(auto)]
+
 ghost use Rattle.std.specs.Prelude.{◌≡◌};
 ghost use Rattle.model.specs.Answers.{rank_or_none, lies_in};
 
-#[derive(Drop)]
+#[derive(Clone, Copy)]
 pub struct Place {
     pub below: u32,
     pub present: bool,

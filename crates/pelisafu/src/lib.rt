@@ -1,6 +1,9 @@
 // The C interface: each public call under its plain name, as include/pelisafu.h declares it. An exported function cannot answer an
 // enum, so each answers a struct: the number of the refusal, 0 for none, and the values, 0 where there are none.
 // The records that a host lends, directory::Segment and gather::Gatherer, are the crates' own.
+
+#![tactic(auto)]
+
 mod deletions;
 mod entries;
 mod gathering;
@@ -21,7 +24,7 @@ pub use reading::{
 
 // The form, the bytes of the body, the segments after merging, and the offers.
 #[repr(C)]
-#[derive(Drop)]
+#[derive(Clone, Copy)]
 pub struct Plan {
     pub number: u8,
     pub tag: u8,
@@ -32,7 +35,7 @@ pub struct Plan {
 
 // The rows of a body.
 #[repr(C)]
-#[derive(Drop)]
+#[derive(Clone, Copy)]
 pub struct Checked {
     pub number: u8,
     pub rows: u16,
@@ -40,7 +43,7 @@ pub struct Checked {
 
 // Whether the position is a row, and its ordinal.
 #[repr(C)]
-#[derive(Drop)]
+#[derive(Clone, Copy)]
 pub struct Ranked {
     pub number: u8,
     pub found: u8,
@@ -49,7 +52,7 @@ pub struct Ranked {
 
 // Whether there is such an ordinal, and its position.
 #[repr(C)]
-#[derive(Drop)]
+#[derive(Clone, Copy)]
 pub struct Selected {
     pub number: u8,
     pub found: u8,
@@ -58,7 +61,7 @@ pub struct Selected {
 
 // How many elements were written.
 #[repr(C)]
-#[derive(Drop)]
+#[derive(Clone, Copy)]
 pub struct Filled {
     pub number: u8,
     pub written: usize,
@@ -66,7 +69,7 @@ pub struct Filled {
 
 // Whether there is such an entry of the directory, and the entry.
 #[repr(C)]
-#[derive(Drop)]
+#[derive(Clone, Copy)]
 pub struct Entry {
     pub number: u8,
     pub found: u8,
@@ -75,7 +78,7 @@ pub struct Entry {
 
 // Whether the row is deleted.
 #[repr(C)]
-#[derive(Drop)]
+#[derive(Clone, Copy)]
 pub struct Contained {
     pub number: u8,
     pub found: u8,
@@ -83,7 +86,7 @@ pub struct Contained {
 
 // Where gathering stands after the call: as before it where it was refused.
 #[repr(C)]
-#[derive(Drop)]
+#[derive(Clone, Copy)]
 pub struct Gathered {
     pub number: u8,
     pub record: gather::Gatherer,

@@ -1,4 +1,7 @@
 // Planning: rows to the shortest body. The seeds are merged in the lent workspace, the cheapest form is chosen, and its body written.
+
+#![tactic(auto)]
+
 ghost use Rattle.std.specs.Prelude.{◌≡◌, List, [], ℕ, ◌*◌, ◌-◌, ◌<◌, ◌≤◌, eqb, leb, length};
 ghost use Rattle.model.specs.Tests.{pick, both};
 ghost use Rattle.cost.specs.Forms.{lex};
@@ -10,7 +13,7 @@ ghost use Rattle.plan.specs.Plans.{planned_of};
 ghost use Rattle.plan.specs.Merging.{Mergeable, Decided};
 
 // An accepted plan: its tag, the length of its body, the segments after merging, and the offers taken.
-#[derive(Drop)]
+#[derive(Clone, Copy)]
 pub struct Body {
     pub tag: u8,
     pub length: u16,
@@ -18,14 +21,14 @@ pub struct Body {
     pub offers: u32,
 }
 
-#[derive(Drop)]
+#[derive(Clone, Copy)]
 pub enum Planned {
     Made(Body),
     Refused(u8),
 }
 
 // The form that is chosen, what the segments come to, and the offers that merging took.
-#[derive(Drop)]
+#[derive(Clone, Copy)]
 pub struct Decision {
     pub form: cost::Form,
     pub sum: assemble::Summary,

@@ -1,4 +1,7 @@
 // A queue of offer keys in a lent slice of words: a max-heap, key i in the words 2i (its high half) and 2i + 1 (its low half).
+
+#![tactic(auto)]
+
 ghost use Rattle.std.specs.Prelude.{◌≡◌, ◌+◌, ◌*◌, ◌<◌, ◌≤◌, length, take, drop};
 ghost use Rattle.model.specs.Tests.{pick};
 ghost use Rattle.queue.specs.Keys.{key, put, Heap};

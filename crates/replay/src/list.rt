@@ -5,7 +5,7 @@
 ghost use Rattle.std.specs.Prelude.{◌+◌, ◌≤◌};
 
 // Rows so far, and the last one.
-#[derive(Drop)]
+#[derive(Clone, Copy)]
 struct Stand {
     at: usize,
     row: u64,

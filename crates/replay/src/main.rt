@@ -4,6 +4,9 @@
 //
 // Nothing is taken on trust from the list: a number outside of it reads as 0, and a case whose numbers don't come to its size is broken.
 // The functions here compare and print. Their contracts say only what others need to be safe, and what is printed is compared with the file `stdout`.
+
+#![tactic(auto)]
+
 mod bodies;
 mod counts;
 mod deletions;
@@ -17,7 +20,7 @@ use libc::{STDIN_FILENO, STDOUT_FILENO};
 use list::count32;
 
 // How the run ended: 0 every case came out as the list says, 2 one did not, 3 one is broken. And how many did before that.
-#[derive(Drop)]
+#[derive(Clone, Copy)]
 struct Ended {
     how: u8,
     cases: u64,

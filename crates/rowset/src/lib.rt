@@ -1,4 +1,7 @@
 // The public reading calls, over tag, span and body. None asks anything of its caller: each tests its own input and refuses.
+
+#![tactic(auto)]
+
 ghost use Rattle.std.specs.Prelude.{◌≡◌, ◌≤◌, length};
 ghost use Rattle.model.specs.Answers.{accepted};
 ghost use Rattle.rowset.specs.Calls.{checked_of, ranked_of, selected_of, filled_of, entry_answer, validate_of, rank_answer, select_answer, row_of, ranks_answer, ranks_left, walk_answer, walk_left, segment_answer};
@@ -7,14 +10,14 @@ use directory::Segment;
 use model::Place;
 
 // The count of an accepted body.
-#[derive(Drop)]
+#[derive(Clone, Copy)]
 pub enum Checked {
     Rows(u16),
     Refused,
 }
 
 // The ordinal of a position, or nothing.
-#[derive(Drop)]
+#[derive(Clone, Copy)]
 pub enum Ranked {
     Ordinal(u16),
     Nothing,
@@ -22,7 +25,7 @@ pub enum Ranked {
 }
 
 // The position of an ordinal, or nothing.
-#[derive(Drop)]
+#[derive(Clone, Copy)]
 pub enum Selected {
     Position(u32),
     Nothing,
@@ -30,14 +33,14 @@ pub enum Selected {
 }
 
 // How many answers were written, or the number of the refusal.
-#[derive(Drop)]
+#[derive(Clone, Copy)]
 pub enum Filled {
     Written(usize),
     Refused(u8),
 }
 
 // A directory entry, or nothing.
-#[derive(Drop)]
+#[derive(Clone, Copy)]
 pub enum Entry {
     Is(Segment),
     Nothing,

@@ -1,4 +1,7 @@
 // The local form runs. A run is read at either width by the same functions: its start has 4 bytes where `wide`, else 2.
+
+#![tactic(auto)]
+
 ghost use Rattle.std.specs.Prelude.{◌≡◌, ◌+◌, ◌-◌, ◌*◌, ◌/◌, ◌^◌, ◌<◌, ◌≤◌, min, length, take};
 ghost use Rattle.std.proofs.lemmas.List.Edits.{sets};
 ghost use Rattle.model.specs.Lists.{range, moved};
@@ -10,7 +13,7 @@ ghost use Rattle.runs.specs.Asked.{entry_of, starts_to, before_to, place_in, run
 use model::Place;
 
 // Start, length and rows before of a run.
-#[derive(Drop)]
+#[derive(Clone, Copy)]
 pub struct Entry {
     pub start: u32,
     pub size: u16,

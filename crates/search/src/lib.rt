@@ -1,4 +1,7 @@
 // The one binary search of the library, over the fields of a table that lies in a body.
+
+#![tactic(auto)]
+
 ghost use Rattle.std.specs.Prelude.{◌≡◌, ℕ, ◌+◌, ◌*◌, ◌≤◌, ◌<◌, cond, leb, length};
 ghost use Rattle.fields.specs.Le.{width_of};
 ghost use Rattle.search.specs.Search.{find, entry, up_to, allowed};

@@ -1,4 +1,7 @@
 // Planning before merging: tests 1 to 5, and the seeds' statistics in the records of the workspace.
+
+#![tactic(auto)]
+
 mod records;
 
 ghost use Rattle.std.specs.Prelude.{◌≡◌, true, [], ◌*◌, ◌<◌, ◌≤◌, leb, length};
@@ -12,7 +15,7 @@ ghost use Rattle.seeds.specs.Judged.{Judged};
 pub use records::{put_ordinals, put_rows};
 
 // The number of the first test that is not met, or 0; and then how many seeds there are.
-#[derive(Drop)]
+#[derive(Clone, Copy)]
 pub struct Early {
     pub number: u8,
     pub seeds: usize,

@@ -1,4 +1,7 @@
 // Tag 9: a directory, and parts that are local forms.
+
+#![tactic(auto)]
+
 ghost use Rattle.std.specs.Prelude.{◌≡◌, ◌+◌, ◌-◌, ◌<◌, ◌≤◌, true, length, slice_index};
 ghost use Rattle.model.specs.Tests.{all};
 ghost use Rattle.model.specs.Lists.{place_of, walk_of};

@@ -1,4 +1,7 @@
 // Tags 1 to 8: one local form, and the header before it.
+
+#![tactic(auto)]
+
 ghost use Rattle.std.specs.Prelude.{◌≡◌, ◌+◌, ◌-◌, ◌<◌, ◌≤◌, true, false, length};
 ghost use Rattle.model.specs.Tests.{both};
 ghost use Rattle.model.specs.Lists.{has};
@@ -9,7 +12,7 @@ ghost use Rattle.single.specs.Single.{fit, header_of, view, bitmap_view, trimmed
 use model::Place;
 
 // Where a body keeps its parts: the local form, whether it is trimmed, its base, span and count, and where its bytes start.
-#[derive(Drop)]
+#[derive(Clone, Copy)]
 pub struct View {
     pub form: u8,
     pub trimmed: bool,

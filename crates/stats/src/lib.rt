@@ -1,4 +1,7 @@
 // Statistics of a segment: counted from its rows, or joined from those of two neighbours.
+
+#![tactic(auto)]
+
 ghost use Rattle.std.specs.Prelude.{◌≡◌, ◌≤◌};
 ghost use Rattle.model.specs.Tests.{pick};
 ghost use Rattle.stats.specs.Statistics.{Neighbours, joined};
@@ -8,7 +11,7 @@ mod rows;
 pub use rows::{ordinals_stats, position, rows_stats, run_end, run_end16};
 
 // Statistics of some positions that rise: first and last, how many, and how many runs they make.
-#[derive(Drop)]
+#[derive(Clone, Copy)]
 pub struct Stats {
     pub first: u32,
     pub last: u32,

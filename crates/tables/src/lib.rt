@@ -1,4 +1,7 @@
 // For tools: a lent table of segment records, filled from a segmented body in one call.
+
+#![tactic(auto)]
+
 ghost use Rattle.std.specs.Prelude.{◌≡◌, ◌+◌, ◌*◌, ◌≤◌, length};
 ghost use Rattle.directory.specs.Directory.{entry_of};
 ghost use Rattle.rowset.specs.Calls.{filled_of};
@@ -64,7 +67,7 @@ pub fn segments(tag: u8, span: u32, body: &[u8], table: &mut [Segment]) -> Fille
 // ---- the call over a table by value
 
 // A table of two records, and the answer.
-#[derive(Drop)]
+#[derive(Clone, Copy)]
 pub struct Pair {
     pub answer: Filled,
     pub table: [Segment; 2],

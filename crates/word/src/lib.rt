@@ -1,4 +1,7 @@
 // Words of 64 binary digits. What a word names is one list, `bits_of word`: its set places, rising.
+
+#![tactic(auto)]
+
 ghost use Rattle.std.specs.Prelude.{◌≡◌, ◌∷◌, ◌+◌, ◌<◌, ◌≤◌, length, get_or, drop};
 ghost use Rattle.model.specs.Lists.{has, range};
 ghost use Rattle.word.specs.Bits.{bits_from, bits_of, num_from, place_in, Wanted, Halved};
@@ -35,7 +38,7 @@ pub fn mask(low: u32, n: u32) -> u64
 }
 
 // A half of a part of a word, in which the set place number `k` is wanted; its lowest digit is counted from `base`.
-#[derive(Drop)]
+#[derive(Clone, Copy)]
 pub struct Half {
     pub word: u64,
     pub k: u32,
@@ -86,7 +89,7 @@ pub fn select(word: u64, k: u32) -> u32
 }
 
 // The lowest set place, and the word without it.
-#[derive(Drop)]
+#[derive(Clone, Copy)]
 pub struct Next {
     pub place: u32,
     pub rest: u64,

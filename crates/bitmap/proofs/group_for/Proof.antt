@@ -14,8 +14,8 @@ group_for_spec =
     (λ c κs. search rules)
     (λ c κs. λ i h. omega arith)
     (λ c. search rules)
-    (λ c. (ap (λ (n : ℕ). n - 1) (sym c.if1.true ∙ c.before.upper.ensures ∙ rw c.before.before.groups_of.ensures), omega arith))
+    (λ c. (ap (λ (n : ℕ). n - 1) (sym c.if-found-eq0.true ∙ c.before.upper-found.ensures ∙ rw c.before.before.groups_of.ensures), omega arith))
     (λ c.
-    let e = ap (λ (n : ℕ). n - 1) (c.before.upper.ensures ∙ rw c.before.before.groups_of.ensures) in
+    let e = ap (λ (n : ℕ). n - 1) (c.before.upper-found.ensures ∙ rw c.before.before.groups_of.ensures) in
     let s = c.before.before.before.before in
     (e, rw e (group_in _ _ _ s.requires.1))))

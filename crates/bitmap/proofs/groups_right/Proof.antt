@@ -6,18 +6,18 @@ use Rattle.bitmap.proofs.Groups.{Counting, counting_start, counting_next, counti
 use Rattle.bitmap.proofs.groups_right.Statement.{statement}
 use Rattle.bitmap.proofs.groups_right.Tie as tie
 
-abbrev invariant-loop : tie.invariant-loop
-invariant-loop body span count words groups n₀ ok₀ g₀ n ok g = Counting body span n ok g
+abbrev invariant-loop-g : tie.invariant-loop-g
+invariant-loop-g body span count words groups n₀ ok₀ g₀ n ok g = Counting body span n ok g
 
-abbrev decreases-loop : tie.decreases-loop
-decreases-loop body span count words groups n₀ ok₀ g₀ n ok g = groups - g
+abbrev decreases-loop-g : tie.decreases-loop-g
+decreases-loop-g body span count words groups n₀ ok₀ g₀ n ok g = groups - g
 
 pub groups_right_spec : {M : Type 1} → statement M
 groups_right_spec =
     tie.close
     (tie.spec
-    invariant-loop
-    decreases-loop
+    invariant-loop-g
+    decreases-loop-g
     (λ c κs. search rules)
     (λ c κs. search rules)
     (λ c. counting_start _ _)
@@ -32,14 +32,14 @@ groups_right_spec =
     (λ c. search rules)
     (λ c.
     let a = c.before.before.before.before.before.before.before.before.args in
-    let g = c.before.before.before.before.loop.g in
+    let g = c.before.before.before.before.loop-g.g in
     omega (arith, before-most a.body.now a.span (256 * g)))
     (λ c. omega arith)
     (λ c. omega arith)
     (λ c.
-    let known = c.before.before.before.before.before.before.before.shared-slice-known in
-    counting_next _ (λ i. (known.given i).fits) _ _ _ _ _ _ _ c.before.before.before.before.loop.invariant (omega arith)
-    c.before.before.read16.ensures (c.before.least.ensures ∙ rw c.before.before.before.before.before.before.words_of.ensures) c.ones_in_lem.ensures)
+    let known = c.before.before.before.before.before.before.before.shared_slice_known-1 in
+    counting_next _ (λ i. (known.given i).fits) _ _ _ _ _ _ _ c.before.before.before.before.loop-g.invariant (omega arith)
+    c.before.before.read16.ensures (c.before.least.ensures ∙ rw c.before.before.before.before.before.before.words_of-words.ensures) c.ones_in.ensures)
     (λ c.
-    let known = c.before.before.before.before.shared-slice-known in
-    counting_end _ (λ i. (known.given i).fits) _ _ _ _ _ c.before.loop.invariant (omega arith)))
+    let known = c.before.before.before.before.shared_slice_known-1 in
+    counting_end _ (λ i. (known.given i).fits) _ _ _ _ _ c.before.loop-g.invariant (omega arith)))

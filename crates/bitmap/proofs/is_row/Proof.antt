@@ -14,4 +14,4 @@ is_row_spec =
     (λ c κs. search rules)
     (λ c.
     let s = c.before.before in
-    row_at _ (λ i. (s.shared-slice-known.given i).fits) _ _ s.before.requires.1 c.before.word_at.ensures c.is_set.ensures))
+    row_at _ (λ i. (s.shared_slice_known-1.given i).fits) _ _ s.before.requires.1 c.before.word_at.ensures c.is_set.ensures))

@@ -5,19 +5,19 @@ use Rattle.bitmap.proofs.Locating.{Locating, locating_start, locating_next, spot
 use Rattle.bitmap.proofs.locate.Statement.{statement}
 use Rattle.bitmap.proofs.locate.Tie as tie
 
-abbrev invariant-loop : tie.invariant-loop
-invariant-loop body span k words g end left₀ i₀ left i = Locating body span k g end left i
+abbrev invariant-loop-i : tie.invariant-loop-i
+invariant-loop-i body span k words g end left₀ i₀ left i = Locating body span k g end left i
 
-abbrev decreases-loop : tie.decreases-loop
-decreases-loop body span k words g end left₀ i₀ left i = end - i
+abbrev decreases-loop-i : tie.decreases-loop-i
+decreases-loop-i body span k words g end left₀ i₀ left i = end - i
 
 pub locate_spec : {M : Type 1} → statement M
 locate_spec =
     tie.close
     (tie.spec
-    invariant-loop
-    decreases-loop
-    (λ c. spotted_empty _ _ _ (λ i. (c.before.shared-slice-known.given i).fits) c.if1.true)
+    invariant-loop-i
+    decreases-loop-i
+    (λ c. spotted_empty _ _ _ (λ i. (c.before.shared_slice_known-1.given i).fits) c.if-span-eq0.true)
     (λ c κs. search rules)
     (λ c κs. (c.before.before.before.requires, omega arith))
     (λ c. omega arith)
@@ -30,20 +30,20 @@ locate_spec =
     (λ c. omega arith)
     (λ c.
     let g = c.before.before.before in
-    locating_start _ _ _ (omega arith) g.group-for.ensures.0 (c.before.before.least.ensures ∙ rw g.before.words_of.ensures) c.before.read16.ensures c.less.ensures)
+    locating_start _ _ _ (omega arith) g.group_for-g.ensures.0 (c.before.before.least-end.ensures ∙ rw g.before.words_of-words.ensures) c.before.read16.ensures c.less-left.ensures)
     (λ c κs. (c.before.before.before.before.before.before.before.before.before.requires, omega arith))
     (λ c κs. search rules)
     (λ c.
     let l = c.before.before.before.before in
-    spotted_found _ _ _ (λ i. (l.before.before.before.before.before.before.before.shared-slice-known.given i).fits) l.loop.invariant _
-    (omega arith) (c.before.ones.ensures.0 ∙ rw c.before.before.word_at.ensures) c.if2.true)
+    spotted_found _ _ _ (λ i. (l.before.before.before.before.before.before.before.shared_slice_known-1.given i).fits) l.loop-i.invariant _
+    (omega arith) (c.before.ones-n.ensures.0 ∙ rw c.before.before.word_at.ensures) c.if-left-n.true)
     (λ c. omega arith)
     (λ c. omega arith)
     (λ c.
     let l = c.before.before.before.before in
-    locating_next _ _ _ (λ i. (l.before.before.before.before.before.before.before.shared-slice-known.given i).fits) l.loop.invariant _
-    (omega arith) (c.before.ones.ensures.0 ∙ rw c.before.before.word_at.ensures) c.if2.false)
+    locating_next _ _ _ (λ i. (l.before.before.before.before.before.before.before.shared_slice_known-1.given i).fits) l.loop-i.invariant _
+    (omega arith) (c.before.ones-n.ensures.0 ∙ rw c.before.before.word_at.ensures) c.if-left-n.false)
     (λ c.
     let l = c.before in
-    rw l.before.before.before.before.before.words_of.ensures
-    (spotted_none _ _ _ (λ i. (l.before.before.before.before.before.before.before.shared-slice-known.given i).fits) l.loop.invariant c.loop-test.false)))
+    rw l.before.before.before.before.before.words_of-words.ensures
+    (spotted_none _ _ _ (λ i. (l.before.before.before.before.before.before.before.shared_slice_known-1.given i).fits) l.loop-i.invariant c.loop-i-test.false)))

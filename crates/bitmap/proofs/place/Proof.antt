@@ -9,7 +9,7 @@ pub place_spec : {M : Type 1} → statement M
 place_spec =
     tie.close
     (tie.spec
-    (λ c. place_outside _ _ _ _ c.if1.true)
+    (λ c. place_outside _ _ _ _ c.if-span-p.true)
     (λ c κs. search rules)
     (λ c κs. search rules)
-    (λ c. place_inside _ _ _ _ c.before.before.if1.false c.before.rows-below.ensures c.is_row.ensures))
+    (λ c. place_inside _ _ _ _ c.before.before.if-span-p.false c.before.rows_below.ensures c.is_row.ensures))

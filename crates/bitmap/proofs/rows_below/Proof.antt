@@ -21,4 +21,4 @@ rows_below_spec =
     (λ c. search rules)
     (λ c.
     let r = c.before.before.before in
-    below_at _ (λ i. (r.before.shared-slice-known.given i).fits) _ _ r.before.before.requires.1 r.read16.ensures c.before.before.ones_in_lem.ensures c.before.word_at.ensures c.ones_below.ensures.0))
+    below_at _ (λ i. (r.before.shared_slice_known-1.given i).fits) _ _ r.before.before.requires.1 r.read16-stated.ensures c.before.before.ones_in.ensures c.before.word_at.ensures c.ones_below.ensures.0))

@@ -11,14 +11,14 @@ select_spec =
     (tie.spec
     (λ c κs. search rules)
     (λ c κs. search rules)
-    (λ c. no_select _ _ _ (c.before.before.before.locate.ensures.none (omega arith)))
+    (λ c. no_select _ _ _ (c.before.before.before.locate-spot.ensures.none (omega arith)))
     (λ c. search rules)
     (λ c. search rules)
     (λ c κs. search rules)
     (λ c κs.
     let l = c.before.before.before.before.before in
-    rw c.word_at.ensures (spot_left _ (λ i. (l.before.shared-slice-known.given i).fits) _ _ _ l.locate.ensures (omega arith)))
+    rw c.word_at.ensures (spot_left _ (λ i. (l.before.shared_slice_known-1.given i).fits) _ _ _ l.locate-spot.ensures (omega arith)))
     (λ c. search rules)
     (λ c.
     let l = c.before.before.before.before.before.before in
-    spot_select _ (λ i. (l.before.shared-slice-known.given i).fits) _ _ _ l.locate.ensures (omega arith) _ _ c.before.word_at.ensures c.select.ensures.0))
+    spot_select _ (λ i. (l.before.shared_slice_known-1.given i).fits) _ _ _ l.locate-spot.ensures (omega arith) _ _ c.before.word_at.ensures c.select.ensures.0))

@@ -11,15 +11,15 @@ walk_spec =
     (tie.spec
     (λ c κs. search rules)
     (λ c κs. search rules)
-    (λ c. no_walk _ _ _ _ _ (c.before.before.before.locate.ensures.none (omega arith)))
+    (λ c. no_walk _ _ _ _ _ (c.before.before.before.locate-spot.ensures.none (omega arith)))
     (λ c κs. search rules)
     (λ c κs.
     let l = c.before.before.before.before in
-    rw c.word_at.ensures (le_of_lt (spot_left _ (λ i. (l.before.before.shared-slice-known.given i).fits) _ _ _ l.locate.ensures (omega arith))))
+    rw c.word_at.ensures (le_of_lt (spot_left _ (λ i. (l.before.before.shared_slice_known-1.given i).fits) _ _ _ l.locate-spot.ensures (omega arith))))
     (λ c κs. search rules)
     (λ c. search rules)
     (λ c.
     let k = c.before.before.before.before in
     let l = k.before.before.before.before.before in
-    let e = spot_walk _ (λ i. (l.before.before.shared-slice-known.given i).fits) _ _ _ l.locate.ensures (omega arith) _ _ k.before.word_at.ensures k.skip.ensures in
+    let e = spot_walk _ (λ i. (l.before.before.shared_slice_known-1.given i).fits) _ _ _ l.locate-spot.ensures (omega arith) _ _ k.before.word_at.ensures k.skip-word.ensures in
     rw (← e) c.before.before.fill.ensures))

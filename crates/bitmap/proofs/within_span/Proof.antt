@@ -9,7 +9,7 @@ pub within_span_spec : {M : Type 1} → statement M
 within_span_spec =
     tie.close
     (tie.spec
-    (λ c. past_full _ (λ i. (c.before.shared-slice-known.given i).fits) _ c.if1.true)
+    (λ c. past_full _ (λ i. (c.before.shared_slice_known-1.given i).fits) _ c.if-bit-eq0.true)
     (λ c κs. search rules)
     (λ c. search rules)
     (λ c κs. search rules)
@@ -17,4 +17,4 @@ within_span_spec =
     (λ c. search rules)
     (λ c.
     let q = c.before.before in
-    rw (c.word_at.ensures, c.before.words_of.ensures) (past_test _ (λ i. (q.before.shared-slice-known.given i).fits) _ (omega arith))))
+    rw (c.word_at.ensures, c.before.words_of.ensures) (past_test _ (λ i. (q.before.shared_slice_known-1.given i).fits) _ (omega arith))))

@@ -9,16 +9,16 @@ pub check_spec : {M : Type 1} → statement M
 check_spec =
     tie.close
     (tie.spec
-    (λ c. check_short _ _ c.if1.true)
+    (λ c. check_short _ _ c.if-body-lt4.true)
     (λ c κs. search rules)
-    (λ c. check_none _ _ _ c.before.segments.ensures.0 c.if2.true)
+    (λ c. check_none _ _ _ c.before.segments-n.ensures.0 c.if-n-eq0.true)
     (λ c. search rules)
     (λ c. search rules)
-    (λ c. check_room _ _ _ c.before.before.segments.ensures.0 c.if3.true)
+    (λ c. check_room _ _ _ c.before.before.segments-n.ensures.0 c.if-body-n.true)
     (λ c κs. search rules)
     (λ c κs. search rules)
     (λ c κs. search rules)
     (λ c.
     let r = c.before.before in
     let g = r.before in
-    check_segments _ _ g.before.before.segments.ensures.0 g.before.if2.false g.if3.false c.before.counted.ensures r.read16.ensures c.stand.ensures))
+    check_segments _ _ g.before.before.segments-n.ensures.0 g.before.if-n-eq0.false g.if-body-n.false c.before.counted.ensures r.read16.ensures c.stand.ensures))

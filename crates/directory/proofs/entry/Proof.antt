@@ -26,4 +26,4 @@ entry_spec =
     (λ c. search rules)
     (λ c.
     let r = c.before in
-    entry-is _ _ r.before.before.before.before.before.read32.ensures r.before.before.before.before.read16.ensures r.before.before.before.read162.ensures r.before.before.read163.ensures r.before.read164.ensures r.read165.ensures))
+    entry-is _ _ r.before.before.before.before.before.read32.ensures r.before.before.before.before.read16.ensures r.before.before.before.read16-2.ensures r.before.before.read16-3.ensures r.before.read16-4.ensures r.read16-5.ensures))

@@ -17,4 +17,4 @@ fits_spec =
     (λ c κs. search rules)
     (λ c. search rules)
     (λ c. search rules)
-    (λ c. fits-is _ _ _ _ _ _ c.before.before.before.counted.ensures c.before.before.is-local.ensures))
+    (λ c. fits-is _ _ _ _ _ _ c.before.before.before.counted.ensures c.before.before.is_local.ensures))

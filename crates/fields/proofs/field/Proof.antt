@@ -10,8 +10,8 @@ unfolding width_of
 field_spec =
     tie.close
     (tie.spec
-    (λ c κs. rw c.if1.true at c.before.before.requires)
-    (λ c κs. rw c.if1.false at c.before.before.requires)
+    (λ c κs. rw c.if-wide.true at c.before.before.requires)
+    (λ c κs. rw c.if-wide.false at c.before.before.requires)
     (λ c. search rules)
-    (λ c. rw c.before.if1.true c.read32.ensures)
-    (λ c. rw c.before.if1.false c.read16.ensures))
+    (λ c. rw c.before.if-wide.true c.read32.ensures)
+    (λ c. rw c.before.if-wide.false c.read16.ensures))

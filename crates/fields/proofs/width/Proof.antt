@@ -7,4 +7,4 @@ use Rattle.fields.proofs.width.Tie as tie
 
 pub width_spec : {M : Type 1} → statement M
 unfolding width_of
-width_spec = tie.close (tie.spec (λ c. rw c.if1.true (omega arith)) (λ c. rw c.if1.false (omega arith)))
+width_spec = tie.close (tie.spec (λ c. rw c.if-wide.true (omega arith)) (λ c. rw c.if-wide.false (omega arith)))

@@ -13,11 +13,11 @@ check_spec =
     tie.close
     (tie.spec
     (λ c κs. search rules)
-    (λ c. sym (both_first _ _ (ne_eqb _ _ (λ e. c.if1.true (e ∙ sym c.before.size.ensures)))))
-    (λ c. sym (both-second _ _ (both_first _ _ (counted_none _ _ c.if2.true))))
-    (λ c. sym (both-second _ _ (both_first _ _ (counted_past _ _ c.if3.true))))
+    (λ c. sym (both_first _ _ (ne_eqb _ _ (λ e. c.if-body-size.true (e ∙ sym c.before.size.ensures)))))
+    (λ c. sym (both-second _ _ (both_first _ _ (counted_none _ _ c.if-count-eq0.true))))
+    (λ c. sym (both-second _ _ (both_first _ _ (counted_past _ _ c.if-span-count.true))))
     (λ c κs. search rules)
     (λ c.
     let at = c.before in
-    both_pass (eq-eqb _ _ (at.before.before.if1.false ∙ at.before.before.before.size.ensures))
-    (both_pass (counted-right _ _ (record { some = omega arith; within = at.if3.false; most = omega arith })) c.rises.ensures)))
+    both_pass (eq-eqb _ _ (at.before.before.if-body-size.false ∙ at.before.before.before.size.ensures))
+    (both_pass (counted-right _ _ (record { some = omega arith; within = at.if-span-count.false; most = omega arith })) c.rises.ensures)))

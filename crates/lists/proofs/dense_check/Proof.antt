@@ -12,8 +12,8 @@ unfolding dense_accepts
 dense_check_spec =
     tie.close
     (tie.spec
-    (λ c. sym (both_first _ _ (ne_eqb _ _ c.if1.true)))
-    (λ c. sym (both-second _ _ (both_first _ _ (ne_eqb _ _ c.if2.true))))
-    (λ c. sym (both-second _ _ (both-second _ _ (counted_none _ _ c.if3.true))))
-    (λ c. sym (both_true _ _ (eq-eqb _ _ c.before.before.if1.false) (both_true _ _ (eq-eqb _ _ c.before.if2.false)
+    (λ c. sym (both_first _ _ (ne_eqb _ _ c.if-body-ne0.true)))
+    (λ c. sym (both-second _ _ (both_first _ _ (ne_eqb _ _ c.if-count-span.true))))
+    (λ c. sym (both-second _ _ (both-second _ _ (counted_none _ _ c.if-count-eq0.true))))
+    (λ c. sym (both_true _ _ (eq-eqb _ _ c.before.before.if-body-ne0.false) (both_true _ _ (eq-eqb _ _ c.before.if-count-span.false)
     (counted-right _ _ (record { some = omega arith; within = omega arith; most = omega arith }))))))

@@ -5,4 +5,4 @@ use Rattle.lists.proofs.dense_place.Statement.{statement}
 use Rattle.lists.proofs.dense_place.Tie as tie
 
 pub dense_place_spec : {M : Type 1} → statement M
-dense_place_spec = tie.close (tie.spec (λ c. dense-inside _ _ c.if1.true) (λ c. dense_past _ _ c.if1.false))
+dense_place_spec = tie.close (tie.spec (λ c. dense-inside _ _ c.if-p-span.true) (λ c. dense_past _ _ c.if-p-span.false))

@@ -8,26 +8,26 @@ use Rattle.lists.specs.Lists.{dense_names}
 use Rattle.lists.proofs.dense_ranks.Statement.{statement}
 use Rattle.lists.proofs.dense_ranks.Tie as tie
 
-abbrev invariant-loop : tie.invariant-loop
-invariant-loop base span positions out₀ asked i₀ out i = Answering (rank_in (place_of (dense_names span)) base span) positions out₀ out i
+abbrev invariant-loop-i : tie.invariant-loop-i
+invariant-loop-i base span positions out₀ asked i₀ out i = Answering (rank_in (place_of (dense_names span)) base span) positions out₀ out i
 
-abbrev decreases-loop : tie.decreases-loop
-decreases-loop base span positions out₀ asked i₀ out i = asked - i
+abbrev decreases-loop-i : tie.decreases-loop-i
+decreases-loop-i base span positions out₀ asked i₀ out i = asked - i
 
 pub dense_ranks_spec : {M : Type 1} → statement M
 dense_ranks_spec =
     tie.close
     (tie.spec
-    invariant-loop
-    decreases-loop
+    invariant-loop-i
+    decreases-loop-i
     (λ c. answering_start _ _ _ c.before.before.requires)
     (λ c. omega arith)
     (λ c. omega arith)
     (λ c κs. tt)
     (λ c. omega arith)
-    (λ c. omega (arith, answering_length c.before.before.before.loop.invariant))
+    (λ c. omega (arith, answering_length c.before.before.before.loop-i.invariant))
     (λ c. omega arith)
     (λ c. omega arith)
-    (λ c. answering_next c.before.before.before.loop.invariant c.before.before.loop-test.true c.dense-rank.ensures)
-    (λ c. answering_length c.before.loop.invariant)
-    (λ c. answering_end c.before.loop.invariant c.loop-test.false))
+    (λ c. answering_next c.before.before.before.loop-i.invariant c.before.before.loop-i-test.true c.dense_rank.ensures)
+    (λ c. answering_length c.before.loop-i.invariant)
+    (λ c. answering_end c.before.loop-i.invariant c.loop-i-test.false))

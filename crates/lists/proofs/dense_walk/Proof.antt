@@ -17,4 +17,4 @@ dense_walk_spec =
     (λ c. search rules)
     (λ c.
     let at = c.before.before.before.before in
-    walked _ _ _ (rw zero-add at (walk_range 0 _ _ _ at.room.ensures)) c.before.before.fill.ensures (length-range _ _) (omega (arith, at.room.ensures))))
+    walked _ _ _ (rw zero-add at (walk_range 0 _ _ _ at.room-n.ensures)) c.before.before.fill.ensures (length-range _ _) (omega (arith, at.room-n.ensures))))

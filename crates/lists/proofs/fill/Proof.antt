@@ -7,11 +7,11 @@ use Rattle.model.proofs.Writing.{Filled, filled_start, filled_length, filled_nex
 use Rattle.lists.proofs.fill.Statement.{statement}
 use Rattle.lists.proofs.fill.Tie as tie
 
-abbrev invariant-loop : tie.invariant-loop
-invariant-loop out₀ at base pos size first i₀ out i = Filled base at (range pos size) out₀ out i
+abbrev invariant-loop-i : tie.invariant-loop-i
+invariant-loop-i out₀ at base pos size first i₀ out i = Filled base at (range pos size) out₀ out i
 
-abbrev decreases-loop : tie.decreases-loop
-decreases-loop out₀ at base pos size first i₀ out i = size - i
+abbrev decreases-loop-i : tie.decreases-loop-i
+decreases-loop-i out₀ at base pos size first i₀ out i = size - i
 
 -- to add first and then i, or both at once
 summed : (b p i : ℕ) {f v : ℕ} → f ≡ (b + p) % 4294967296 → v ≡ (f + i) % 4294967296 → v ≡ (b + (p + i)) % 4294967296
@@ -21,20 +21,20 @@ pub fill_spec : {M : Type 1} → statement M
 fill_spec =
     tie.close
     (tie.spec
-    invariant-loop
-    decreases-loop
+    invariant-loop-i
+    decreases-loop-i
     (λ c κs. search rules)
     (λ c. filled_start _ _ _ _ (omega arith))
     (λ c κs. search rules)
     (λ c. omega arith)
     (λ c. omega arith)
     (λ c. omega arith)
-    (λ c. omega (arith, filled_length c.before.before.loop.invariant))
+    (λ c. omega (arith, filled_length c.before.before.loop-i.invariant))
     (λ c. omega arith)
     (λ c. omega arith)
     (λ c.
-    let l = c.before.loop-test.true in
-    filled_next c.before.before.loop.invariant _ (rw length-range l) (get_d_range _ _ _ l) refl (omega arith)
-    (summed _ _ _ c.before.before.before.wrapping-add-u32.ensures c.wrapping-add-u322.ensures))
-    (λ c. filled_length c.before.loop.invariant)
-    (λ c. filled_whole c.before.loop.invariant (rw length-range c.loop-test.false)))
+    let l = c.before.loop-i-test.true in
+    filled_next c.before.before.loop-i.invariant _ (rw length-range l) (get_d_range _ _ _ l) refl (omega arith)
+    (summed _ _ _ c.before.before.before.wrapping_add_u32-first.ensures c.wrapping_add_u32.ensures))
+    (λ c. filled_length c.before.loop-i.invariant)
+    (λ c. filled_whole c.before.loop-i.invariant (rw length-range c.loop-i-test.false)))

@@ -11,10 +11,10 @@ unfolding width_of
 item_spec =
     tie.close
     (tie.spec
-    (λ c. omega (arith, rw c.if1.true at c.before.before.requires))
-    (λ c κs. omega (arith, rw c.if1.true at c.before.before.requires))
-    (λ c. omega (arith, rw c.if1.false at c.before.before.requires))
-    (λ c κs. omega (arith, rw c.if1.false at c.before.before.requires))
+    (λ c. omega (arith, rw c.if-wide.true at c.before.before.requires))
+    (λ c κs. omega (arith, rw c.if-wide.true at c.before.before.requires))
+    (λ c. omega (arith, rw c.if-wide.false at c.before.before.requires))
+    (λ c κs. omega (arith, rw c.if-wide.false at c.before.before.requires))
     (λ c. search rules)
-    (λ c. rw c.before.if1.true (c.read32.ensures ∙ entry_at 4 _ 4 _))
-    (λ c. rw c.before.if1.false (c.read16.ensures ∙ entry_at 2 _ 2 _)))
+    (λ c. rw c.before.if-wide.true (c.read32.ensures ∙ entry_at 4 _ 4 _))
+    (λ c. rw c.before.if-wide.false (c.read16.ensures ∙ entry_at 2 _ 2 _)))

@@ -11,8 +11,8 @@ use Rattle.lists.proofs.place.Statement.{statement}
 use Rattle.lists.proofs.place.Tie as tie
 
 -- what the search found, at the width that the flag means
-found : (c : tie.After-upper) → c.upper.result ≡ find (up_to false (item (width_of c.before.before.before.args.wide) c.before.before.before.args.body.now) c.before.before.before.args.p) 0 c.before.before.before.args.count
-found c = rw c.before.width.ensures.0 at c.upper.ensures
+found : (c : tie.After-upper-k) → c.upper-k.result ≡ find (up_to false (item (width_of c.before.before.before.args.wide) c.before.before.before.args.body.now) c.before.before.before.args.p) 0 c.before.before.before.args.count
+found c = rw c.before.width.ensures.0 at c.upper-k.ensures
 
 pub place_spec : {M : Type 1} → statement M
 unfolding list_place
@@ -21,11 +21,11 @@ place_spec =
     (tie.spec
     (λ c κs. search rules)
     (λ c κs. rw c.width.ensures.0 (slots _ 0 _ c.before.before.requires (omega arith)))
-    (λ c. found_none _ _ _ _ (found c.before) c.if1.true)
+    (λ c. found_none _ _ _ _ (found c.before) c.if-k-eq0.true)
     (λ c. search rules)
-    (λ c κs. slot _ (c.before.upper.result - 1) c.before.before.before.before.requires (omega (arith, found_within _ _ (found c.before))))
+    (λ c κs. slot _ (c.before.upper-k.result - 1) c.before.before.before.before.requires (omega (arith, found_within _ _ (found c.before))))
     (λ c. search rules)
     (λ c. omega (arith, found_within _ _ (found c.before.before.before)))
-    (λ c. found_at _ _ _ _ (found c.before.before.before) _ c.before.before.if1.false c.before.item.ensures c.if2.true)
+    (λ c. found_at _ _ _ _ (found c.before.before.before) _ c.before.before.if-k-eq0.false c.before.item.ensures c.if-item-p.true)
     (λ c. omega (arith, found_within _ _ (found c.before.before.before)))
-    (λ c. found_past _ _ _ _ (found c.before.before.before) _ c.before.before.if1.false c.before.item.ensures c.if2.false))
+    (λ c. found_past _ _ _ _ (found c.before.before.before) _ c.before.before.if-k-eq0.false c.before.item.ensures c.if-item-p.false))

@@ -8,19 +8,19 @@ use Rattle.lists.proofs.Climbing.{Climbing, climbing_start, climbing_next, rises
 use Rattle.lists.proofs.rises.Statement.{statement}
 use Rattle.lists.proofs.rises.Tie as tie
 
-abbrev invariant-loop : tie.invariant-loop
-invariant-loop body n span wide last ok₀ i₀ ok i = Climbing (item (width_of wide) body) last ok i
+abbrev invariant-loop-i : tie.invariant-loop-i
+invariant-loop-i body n span wide last ok₀ i₀ ok i = Climbing (item (width_of wide) body) last ok i
 
-abbrev decreases-loop : tie.decreases-loop
-decreases-loop body n span wide last ok₀ i₀ ok i = last - i
+abbrev decreases-loop-i : tie.decreases-loop-i
+decreases-loop-i body n span wide last ok₀ i₀ ok i = last - i
 
 pub rises_spec : {M : Type 1} → statement M
 rises_spec =
     tie.close
     (tie.spec
-    invariant-loop
-    decreases-loop
-    (λ c. rises-none _ _ c.if1.true)
+    invariant-loop-i
+    decreases-loop-i
+    (λ c. rises-none _ _ c.if-n-eq0.true)
     (λ c. omega arith)
     (λ c. climbing_start _ _)
     (λ c κs. slot _ _ c.before.before.before.before.requires (omega arith))
@@ -28,6 +28,6 @@ rises_spec =
     (λ c κs. slot _ _ c.before.before.before.before.before.requires (omega arith))
     (λ c. omega arith)
     (λ c. omega arith)
-    (λ c. climbing_next _ _ _ c.before.before.before.loop.invariant c.before.before.loop-test.true c.before.item.ensures c.item2.ensures)
+    (λ c. climbing_next _ _ _ c.before.before.before.loop-i.invariant c.before.before.loop-i-test.true c.before.item.ensures c.item-in-loop-i.ensures)
     (λ c κs. slot _ _ c.before.before.before.before.requires (omega arith))
-    (λ c. rises-end _ _ _ c.before.before.before.if1.false c.before.before.loop.invariant c.before.loop-test.false c.item3.ensures))
+    (λ c. rises-end _ _ _ c.before.before.before.if-n-eq0.false c.before.before.loop-i.invariant c.before.loop-i-test.false c.item-2.ensures))

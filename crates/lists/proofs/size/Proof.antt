@@ -7,4 +7,4 @@ use Rattle.lists.proofs.size.Tie as tie
 
 pub size_spec : {M : Type 1} → statement M
 unfolding width_of
-size_spec = tie.close (tie.spec (λ c. search rules) (λ c. search rules) (λ c. rw c.if1.true) (λ c. rw c.if1.false))
+size_spec = tie.close (tie.spec (λ c. search rules) (λ c. search rules) (λ c. rw c.if-wide.true) (λ c. rw c.if-wide.false))

@@ -16,17 +16,17 @@ unfolding missing_accepts width_of
 check_spec =
     tie.close
     (tie.spec
-    (λ c. sym (both_first _ _ (lt-leb _ _ c.if1.true)))
-    (λ c. sym (both-second _ _ (both_first _ _ (counted_none _ _ c.if2.true))))
-    (λ c. sym (both-second _ _ (both_first _ _ (counted_past _ _ c.if3.true))))
+    (λ c. sym (both_first _ _ (lt-leb _ _ c.if-span-gt65535.true)))
+    (λ c. sym (both-second _ _ (both_first _ _ (counted_none _ _ c.if-count-eq0.true))))
+    (λ c. sym (both-second _ _ (both_first _ _ (counted_past _ _ c.if-span-count.true))))
     (λ c. search rules)
     (λ c. search rules)
     (λ c. search rules)
     (λ c. search rules)
-    (λ c. sym (both-second _ _ (both-second _ _ (both_first _ _ (ne_eqb _ _ c.if4.true)))))
+    (λ c. sym (both-second _ _ (both-second _ _ (both_first _ _ (ne_eqb _ _ c.if-body-holes.true)))))
     (λ c κs. omega arith)
     (λ c.
     let at = c.before.before in
-    both_pass (le-leb _ _ at.before.before.if1.false)
-    (both_pass (counted-right _ _ (record { some = omega arith; within = at.if3.false; most = omega arith }))
-    (both_pass (eq-eqb _ _ c.before.if4.false) c.rises.ensures))))
+    both_pass (le-leb _ _ at.before.before.if-span-gt65535.false)
+    (both_pass (counted-right _ _ (record { some = omega arith; within = at.if-span-count.false; most = omega arith }))
+    (both_pass (eq-eqb _ _ c.before.if-body-holes.false) c.rises.ensures))))

@@ -15,7 +15,7 @@ place_spec =
     tie.close
     (tie.spec
     (λ c κs. search rules)
-    (λ c. rw c.less.ensures (sym (pick_false _ _ (le-ltb _ _ c.before.if1.true))))
+    (λ c. rw c.less.ensures (sym (pick_false _ _ (le-ltb _ _ c.before.if-span-p.true))))
     (λ c κs. c.before.before.requires)
     (λ c κs. search rules)
-    (λ c. rw (c.before.less2.ensures, c.before.before.place.ensures) (sym (pick_true _ _ (lt-ltb _ _ c.before.before.before.if1.false)))))
+    (λ c. rw (c.before.less-2.ensures, c.before.before.place-hole.ensures) (sym (pick_true _ _ (lt-ltb _ _ c.before.before.before.if-span-p.false)))))

@@ -14,4 +14,4 @@ up_to_spec =
     (λ c. search rules)
     (λ c. search rules)
     (λ c. search rules)
-    (λ c. let n = c.before.before.before.before.stretch.ensures in record { written = rw n at c.before.before.fill.ensures; number = rw n }))
+    (λ c. let n = c.before.before.before.before.stretch-n.ensures in record { written = rw n at c.before.before.fill.ensures; number = rw n }))

@@ -12,36 +12,36 @@ use Rattle.missing.proofs.Walking.{Going, going_start, going_next, going_end, go
 use Rattle.missing.proofs.walk.Statement.{statement}
 use Rattle.missing.proofs.walk.Tie as tie
 
-abbrev invariant-loop : tie.invariant-loop
-invariant-loop body span holes from base out₀ end i₀ pos₀ at₀ out i pos at = Going (list_names 2 body holes) span base out₀ (take (length out₀) (missing_from body span holes from)) out i pos at
+abbrev invariant-loop-i : tie.invariant-loop-i
+invariant-loop-i body span holes from base out₀ end i₀ pos₀ at₀ out i pos at = Going (list_names 2 body holes) span base out₀ (take (length out₀) (missing_from body span holes from)) out i pos at
 
-abbrev decreases-loop : tie.decreases-loop
-decreases-loop body span holes from base out₀ end i₀ pos₀ at₀ out i pos at = holes - i
+abbrev decreases-loop-i : tie.decreases-loop-i
+decreases-loop-i body span holes from base out₀ end i₀ pos₀ at₀ out i pos at = holes - i
 
 pub walk_spec : {M : Type 1} → statement M
 unfolding missing_from missing_select
 walk_spec =
     tie.close
     (tie.spec
-    invariant-loop
-    decreases-loop
+    invariant-loop-i
+    decreases-loop-i
     (λ c κs. search rules)
     (λ c. search rules)
     (λ c. search rules)
-    (λ c. going_start _ _ _ (rw c.holes-before.ensures))
-    (λ c. filled_length c.before.before.loop.invariant.filled)
-    (λ c. going_full _ _ _ c.before.before.loop.invariant c.if1.true)
+    (λ c. going_start _ _ _ (rw c.holes_before-i.ensures))
+    (λ c. filled_length c.before.before.loop-i.invariant.filled)
+    (λ c. going_full _ _ _ c.before.before.loop-i.invariant c.if-at-end.true)
     (λ c. omega arith)
     (λ c. omega arith)
     (λ c κs. omega arith)
     (λ c. search rules)
-    (λ c κs. let f = c.before.before.before.before.loop.invariant.filled in omega (arith, filled_length f, f.room))
+    (λ c κs. let f = c.before.before.before.before.loop-i.invariant.filled in omega (arith, filled_length f, f.room))
     (λ c. omega arith)
     (λ c. omega arith)
     (λ c. omega arith)
     (λ c.
     let at = c.before.before.before.before.before.before in
-    going_next _ _ _ at.before.loop.invariant _ (hole_inside _ _ _ at.loop-test.true) (hole_at _ _ _ at.loop-test.true c.before.before.before.before.read16.ensures) c.before.before.up_to_lem.ensures)
-    (λ c κs. let f = c.before.before.loop.invariant.filled in omega (arith, filled_length f, f.room))
-    (λ c. c.before.before.up-to2.auto.0 ∙ filled_length c.before.before.before.before.before.loop.invariant.filled)
-    (λ c. going_end _ _ _ c.before.before.before.before.before.loop.invariant (holes_passed _ _ _ c.before.before.before.before.loop-test.false) c.before.before.up-to2.ensures))
+    going_next _ _ _ at.before.loop-i.invariant _ (hole_inside _ _ _ at.loop-i-test.true) (hole_at _ _ _ at.loop-i-test.true c.before.before.before.before.read16-hole.ensures) c.before.before.up_to-at.ensures)
+    (λ c κs. let f = c.before.before.loop-i.invariant.filled in omega (arith, filled_length f, f.room))
+    (λ c. c.before.before.up_to.auto.out ∙ filled_length c.before.before.before.before.before.loop-i.invariant.filled)
+    (λ c. going_end _ _ _ c.before.before.before.before.before.loop-i.invariant (holes_passed _ _ _ c.before.before.before.before.loop-i-test.false) c.before.before.up_to.ensures))

@@ -10,4 +10,4 @@ use Rattle.model.proofs.lies_in.Tie as tie
 
 pub lies_in_spec : {M : Type 1} → statement M
 unfolding lies_in
-lies_in_spec = tie.close (tie.spec (λ c. sym (both_first _ _ (lt-leb _ _ c.if1.true))) (λ c. both_pass (le-leb _ _ c.if1.false) refl))
+lies_in_spec = tie.close (tie.spec (λ c. sym (both_first _ _ (lt-leb _ _ c.if-p-base.true))) (λ c. both_pass (le-leb _ _ c.if-p-base.false) refl))

@@ -11,5 +11,5 @@ unfolding rank_or_none
 rank_or_spec =
     tie.close
     (tie.spec
-    (λ c. sym (pick_true _ _ c.if1.true))
-    (λ c. sym (pick_false _ _ c.if1.false)))
+    (λ c. sym (pick_true _ _ c.if-q.true))
+    (λ c. sym (pick_false _ _ c.if-q.false)))

@@ -15,5 +15,5 @@ before_to_spec =
     (λ c κs. search rules)
     (λ c. search rules)
     (λ c. search rules)
-    (λ c κs. rw c.width.ensures.0 (slots _ _ _ c.before.before.requires (omega arith)))
-    (λ c. rw c.before.width.ensures.0 at c.upper.ensures))
+    (λ c κs. rw c.width-w.ensures.0 (slots _ _ _ c.before.before.requires (omega arith)))
+    (λ c. rw c.before.width-w.ensures.0 at c.upper.ensures))

@@ -11,16 +11,16 @@ check_spec =
     tie.close
     (tie.spec
     (λ c κs. search rules)
-    (λ c. check_none _ _ _ _ c.if1.true)
-    (λ c. check_over _ _ _ _ c.if2.true)
-    (λ c. check_many _ _ _ _ _ c.before.before.before.runs-in.ensures c.if3.true)
-    (λ c κs. omega (arith, held _ _ c.before.before.before.runs-in.ensures))
-    (λ c. check_size _ _ _ _ _ _ c.before.before.before.before.before.runs-in.ensures c.before.offset.ensures c.if4.true)
+    (λ c. check_none _ _ _ _ c.if-count-eq0.true)
+    (λ c. check_over _ _ _ _ c.if-span-count.true)
+    (λ c. check_many _ _ _ _ _ c.before.before.before.runs_in-runs.ensures c.if-count-runs.true)
+    (λ c κs. omega (arith, held _ _ c.before.before.before.runs_in-runs.ensures))
+    (λ c. check_size _ _ _ _ _ _ c.before.before.before.before.before.runs_in-runs.ensures c.before.offset.ensures c.if-offset-body.true)
     (λ c. search rules)
     (λ c κs. search rules)
     (λ c κs. search rules)
     (λ c.
     let o = c.before.before.before in
     let r = o.before.before.before.before in
-    check_stand _ _ _ _ r.runs-in.ensures o.offset.ensures (record { some = omega arith; within = o.before.before.if2.false; most = omega arith }) c.before.before.if4.false
+    check_stand _ _ _ _ r.runs_in-runs.ensures o.offset.ensures (record { some = omega arith; within = o.before.before.if-span-count.false; most = omega arith }) c.before.before.if-offset-body.false
     c.before.most.ensures c.stand.ensures))

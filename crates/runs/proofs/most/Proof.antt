@@ -11,6 +11,6 @@ unfolding width_of most_of
 most_spec =
     tie.close
     (tie.spec
-    (λ c. rw c.if1.true (omega arith))
-    (λ c. rw c.before.if1.false (omega arith))
-    (λ c. rw c.before.if1.false (omega arith)))
+    (λ c. rw c.if-wide.true (omega arith))
+    (λ c. rw c.before.if-wide.false (omega arith))
+    (λ c. rw c.before.if-wide.false (omega arith)))

@@ -7,4 +7,4 @@ use Rattle.runs.proofs.nth.Tie as tie
 
 pub nth_spec : {M : Type 1} → statement M
 unfolding nth_of
-nth_spec = tie.close (tie.spec (λ c. search rules) (λ c. search rules) (λ c κs. search rules) (λ c. c.wrapping-add-u32.ensures))
+nth_spec = tie.close (tie.spec (λ c. search rules) (λ c. search rules) (λ c κs. search rules) (λ c. c.wrapping_add_u32.ensures))

@@ -10,7 +10,7 @@ unfolding width_of
 offset_spec =
     tie.close
     (tie.spec
-    (λ c. omega (arith, rw c.if1.true at c.before.requires))
-    (λ c. omega (arith, rw c.if1.false at c.before.requires))
-    (λ c. rw c.if1.true)
-    (λ c. rw c.if1.false))
+    (λ c. omega (arith, rw c.if-wide.true at c.before.requires))
+    (λ c. omega (arith, rw c.if-wide.false at c.before.requires))
+    (λ c. rw c.if-wide.true)
+    (λ c. rw c.if-wide.false))

@@ -14,8 +14,8 @@ place_spec =
     tie.close
     (tie.spec
     (λ c κs. search rules)
-    (λ c. last_none _ _ c.before.starts-to.ensures c.if1.true)
+    (λ c. last_none _ _ c.before.starts_to-found.ensures c.if-found-eq0.true)
     (λ c. search rules)
-    (λ c κs. slot _ _ c.before.before.before.requires (found_inside _ _ _ c.before.starts-to.ensures c.if1.false))
-    (λ c κs. rw c.read.ensures (found_hit _ _ _ c.before.before.starts-to.ensures c.before.if1.false))
-    (λ c. rw c.before.read.ensures at c.place_in_lem.ensures ∙ last_some _ _ c.before.before.before.starts-to.ensures c.before.before.if1.false))
+    (λ c κs. slot _ _ c.before.before.before.requires (found_inside _ _ _ c.before.starts_to-found.ensures c.if-found-eq0.false))
+    (λ c κs. rw c.read.ensures (found_hit _ _ _ c.before.before.starts_to-found.ensures c.before.if-found-eq0.false))
+    (λ c. rw c.before.read.ensures at c.place_in.ensures ∙ last_some _ _ c.before.before.before.starts_to-found.ensures c.before.before.if-found-eq0.false))

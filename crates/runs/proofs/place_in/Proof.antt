@@ -15,5 +15,5 @@ place_in_spec =
     (λ c. search rules)
     (λ c. search rules)
     (λ c. search rules)
-    (λ c. place_present _ _ c.before.if1.true)
-    (λ c. place_absent _ _ c.before.if1.false))
+    (λ c. place_present _ _ c.before.if-past-size.true)
+    (λ c. place_absent _ _ c.before.if-past-size.false))

@@ -8,26 +8,26 @@ use Rattle.runs.specs.Asked.{runs_place}
 use Rattle.runs.proofs.ranks.Statement.{statement}
 use Rattle.runs.proofs.ranks.Tie as tie
 
-abbrev invariant-loop : tie.invariant-loop
-invariant-loop body runs base span positions out₀ wide asked i₀ out i = Answering (rank_in (runs_place (width_of wide) body runs) base span) positions out₀ out i
+abbrev invariant-loop-i : tie.invariant-loop-i
+invariant-loop-i body runs base span positions out₀ wide asked i₀ out i = Answering (rank_in (runs_place (width_of wide) body runs) base span) positions out₀ out i
 
-abbrev decreases-loop : tie.decreases-loop
-decreases-loop body runs base span positions out₀ wide asked i₀ out i = asked - i
+abbrev decreases-loop-i : tie.decreases-loop-i
+decreases-loop-i body runs base span positions out₀ wide asked i₀ out i = asked - i
 
 pub ranks_spec : {M : Type 1} → statement M
 ranks_spec =
     tie.close
     (tie.spec
-    invariant-loop
-    decreases-loop
+    invariant-loop-i
+    decreases-loop-i
     (λ c. answering_start _ _ _ c.before.before.before.requires.1)
     (λ c. omega arith)
     (λ c. omega arith)
     (λ c κs. c.before.before.before.before.before.before.requires.0)
     (λ c. omega arith)
-    (λ c. omega (arith, answering_length c.before.before.before.loop.invariant))
+    (λ c. omega (arith, answering_length c.before.before.before.loop-i.invariant))
     (λ c. omega arith)
     (λ c. omega arith)
-    (λ c. answering_next c.before.before.before.loop.invariant c.before.before.loop-test.true c.rank.ensures)
-    (λ c. answering_length c.before.loop.invariant)
-    (λ c. answering_end c.before.loop.invariant c.loop-test.false))
+    (λ c. answering_next c.before.before.before.loop-i.invariant c.before.before.loop-i-test.true c.rank.ensures)
+    (λ c. answering_length c.before.loop-i.invariant)
+    (λ c. answering_end c.before.loop-i.invariant c.loop-i-test.false))

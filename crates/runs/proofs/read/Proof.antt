@@ -17,4 +17,4 @@ read_spec =
     (λ c. search rules)
     (λ c. search rules)
     (λ c κs. search rules)
-    (λ c. entry-is _ _ _ c.before.before.before.before.offset.ensures c.before.before.before.width.ensures.0 c.before.before.field.ensures c.before.read16.ensures c.read162.ensures))
+    (λ c. entry-is _ _ _ c.before.before.before.before.offset-at.ensures c.before.before.before.width-w.ensures.0 c.before.before.field.ensures c.before.read16.ensures c.read16-2.ensures))

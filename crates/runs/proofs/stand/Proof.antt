@@ -7,21 +7,21 @@ use Rattle.runs.proofs.Table.{Standing, standing_start, standing_next, standing_
 use Rattle.runs.proofs.stand.Statement.{statement}
 use Rattle.runs.proofs.stand.Tie as tie
 
-abbrev invariant-loop : tie.invariant-loop
-invariant-loop body runs end count wide ok₀ low₀ rows₀ i₀ ok low rows i = Standing (width_of wide) body end runs i ok low rows
+abbrev invariant-loop-i : tie.invariant-loop-i
+invariant-loop-i body runs end count wide ok₀ low₀ rows₀ i₀ ok low rows i = Standing (width_of wide) body end runs i ok low rows
 
-abbrev decreases-loop : tie.decreases-loop
-decreases-loop body runs end count wide ok₀ low₀ rows₀ i₀ ok low rows i = runs - i
+abbrev decreases-loop-i : tie.decreases-loop-i
+decreases-loop-i body runs end count wide ok₀ low₀ rows₀ i₀ ok low rows i = runs - i
 
 pub stand_spec : {M : Type 1} → statement M
 stand_spec =
     tie.close
     (tie.spec
-    invariant-loop
-    decreases-loop
+    invariant-loop-i
+    decreases-loop-i
     (λ c. standing_start _ _ _ _)
     (λ c. omega arith)
-    (λ c κs. slot _ _ c.before.before.before.requires c.loop-test.true)
+    (λ c κs. slot _ _ c.before.before.before.requires c.loop-i-test.true)
     (λ c. search rules)
     (λ c. search rules)
     (λ c κs. search rules)
@@ -31,6 +31,6 @@ stand_spec =
     (λ c. omega arith)
     (λ c. omega arith)
     (λ c.
-    standing_next _ _ _ _ c.before.before.before.before.before.loop.invariant c.before.before.before.before.loop-test.true c.before.before.before.read.ensures (omega arith)
-    c.fits2.ensures)
-    (λ c. standing_end _ _ _ _ _ c.before.loop.invariant c.loop-test.false))
+    standing_next _ _ _ _ c.before.before.before.before.before.loop-i.invariant c.before.before.before.before.loop-i-test.true c.before.before.before.read-e.ensures (omega arith)
+    c.fits-ok.ensures)
+    (λ c. standing_end _ _ _ _ _ c.before.loop-i.invariant c.loop-i-test.false))

@@ -14,13 +14,13 @@ walk_spec =
     tie.close
     (tie.spec
     (λ c κs. search rules)
-    (λ c. walked_none _ _ _ _ _ _ c.before.before-to.ensures c.if1.true)
+    (λ c. walked_none _ _ _ _ _ _ c.before.before_to-found.ensures c.if-found-eq0.true)
     (λ c. search rules)
-    (λ c κs. slot _ _ c.before.before.before.before.requires (found_inside _ _ _ c.before.before-to.ensures c.if1.false))
-    (λ c. rw c.before.read.ensures (found_hit _ _ _ c.before.before.before.before-to.ensures c.before.before.if1.false))
+    (λ c κs. slot _ _ c.before.before.before.before.requires (found_inside _ _ _ c.before.before_to-found.ensures c.if-found-eq0.false))
+    (λ c. rw c.before.read.ensures (found_hit _ _ _ c.before.before.before.before_to-found.ensures c.before.before.if-found-eq0.false))
     (λ c. search rules)
     (λ c κs. search rules)
     (λ c. search rules)
     (λ c.
     let s = c.before.before.before.before in
-    walked_rest _ _ _ _ _ s.before.before.before.before-to.ensures s.before.before.if1.false s.before.read.ensures c.before.before.walk_from.ensures))
+    walked_rest _ _ _ _ _ s.before.before.before.before_to-found.ensures s.before.before.if-found-eq0.false s.before.read.ensures c.before.before.walk_from.ensures))

@@ -8,18 +8,18 @@ use Rattle.runs.proofs.Filling.{written-end}
 use Rattle.runs.proofs.write_run.Statement.{statement}
 use Rattle.runs.proofs.write_run.Tie as tie
 
-abbrev invariant-loop : tie.invariant-loop
-invariant-loop skip base out₀ at n first j₀ out j = Filled first at (range 0 n) out₀ out j
+abbrev invariant-loop-j : tie.invariant-loop-j
+invariant-loop-j skip base out₀ at n first j₀ out j = Filled first at (range 0 n) out₀ out j
 
-abbrev decreases-loop : tie.decreases-loop
-decreases-loop skip base out₀ at n first j₀ out j = n - j
+abbrev decreases-loop-j : tie.decreases-loop-j
+decreases-loop-j skip base out₀ at n first j₀ out j = n - j
 
 pub write_run_spec : {M : Type 1} → statement M
 write_run_spec =
     tie.close
     (tie.spec
-    invariant-loop
-    decreases-loop
+    invariant-loop-j
+    decreases-loop-j
     (λ c. search rules)
     (λ c κs. search rules)
     (λ c κs. search rules)
@@ -29,16 +29,16 @@ write_run_spec =
     (λ c κs. search rules)
     (λ c. omega arith)
     (λ c. omega arith)
-    (λ c. omega (arith, filled_length c.before.before.loop.invariant))
+    (λ c. omega (arith, filled_length c.before.before.loop-j.invariant))
     (λ c. omega arith)
     (λ c. omega arith)
     (λ c.
-    let l = c.before.before.loop in
-    let n = c.before.before.before.before.before.fewer.result in
-    filled_next l.invariant l.j (omega (arith, length-range 0 n)) (get_d_range 0 n l.j (omega arith) ∙ zero-add l.j) refl (omega arith) c.wrapping-add-u323.ensures)
-    (λ c. filled_length c.before.loop.invariant)
+    let l = c.before.before.loop-j in
+    let n = c.before.before.before.before.before.fewer-n.result in
+    filled_next l.invariant l.j (omega (arith, length-range 0 n)) (get_d_range 0 n l.j (omega arith) ∙ zero-add l.j) refl (omega arith) c.wrapping_add_u32-in-loop-j.ensures)
+    (λ c. filled_length c.before.loop-j.invariant)
     (λ c.
     let a = c.before.before.before.before.before.before.args in
-    let l = c.before.loop in
-    let n = c.before.before.before.before.fewer in
-    (n.ensures, filled_whole l.invariant (omega (arith, length-range 0 n.result)) ∙ written-end a.out.now a.at _ _ _ n.result c.before.before.before.wrapping-add-u32.ensures c.before.before.wrapping-add-u322.ensures)))
+    let l = c.before.loop-j in
+    let n = c.before.before.before.before.fewer-n in
+    (n.ensures, filled_whole l.invariant (omega (arith, length-range 0 n.result)) ∙ written-end a.out.now a.at _ _ _ n.result c.before.before.before.wrapping_add_u32.ensures c.before.before.wrapping_add_u32-first.ensures)))

@@ -13,6 +13,6 @@ unfolding allowed
 extra_spec =
     tie.close
     (tie.spec
-    (λ c. (omega arith, λ v key h. rw c.before.if1.true refl))
-    (λ c. (omega arith, λ v key h. rw c.before.if1.true (past_all key h c.if2.false)))
-    (λ c. (omega arith, λ v key h. rw (c.if1.false, add-zero key) refl)))
+    (λ c. (omega arith, λ v key h. rw c.before.if-gaps.true refl))
+    (λ c. (omega arith, λ v key h. rw c.before.if-gaps.true (past_all key h c.if-i-lt4294967296.false)))
+    (λ c. (omega arith, λ v key h. rw (c.if-gaps.false, add-zero key) refl)))

@@ -33,5 +33,5 @@ pub +select_in_spec : {M : Type 1} → statement M
     select_in_lem.Post
     (λ c. last_digit _ _ _ _ (omega arith) c.before.requires.1)
     (λ c κs. (omega arith, c.before.requires.1))
-    (λ c κs. (omega arith, c.half_of_lem.ensures.wanted))
-    (λ c. c.select_in_lem.ensures ∙ c.before.half_of_lem.ensures.same)
+    (λ c κs. (omega arith, c.half_of-h.ensures.wanted))
+    (λ c. c.select_in.ensures ∙ c.before.half_of-h.ensures.same)

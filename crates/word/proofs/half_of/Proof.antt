@@ -15,4 +15,4 @@ half_of_spec =
     (λ c. search rules)
     (λ c. search rules)
     (λ c. let s = c.before.before in low_half _ _ _ _ s.requires.0 s.requires.1 (omega arith))
-    (λ c. let s = c.before.before in high_half _ _ _ _ s.requires.0 s.requires.1 _ c.before.ones_below.ensures.0 c.if1.false))
+    (λ c. let s = c.before.before in high_half _ _ _ _ s.requires.0 s.requires.1 _ c.before.ones_below-low.ensures.0 c.if-k-low.false))

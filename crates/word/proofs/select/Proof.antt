@@ -14,4 +14,4 @@ select_spec =
     (λ c κs. record { level = 6; power = refl; inside = c.requires; fits = search rules })
     (λ c.
     let s = c.before in
-    (c.select_in_lem.ensures, rw c.select_in_lem.ensures (rising-below (bits_rising 64 0 s.args.word) s.args.k s.requires))))
+    (c.select_in.ensures, rw c.select_in.ensures (rising-below (bits_rising 64 0 s.args.word) s.args.k s.requires))))

@@ -11,11 +11,11 @@ use Rattle.word.proofs.Bits.{bits_some}
 use Rattle.word.proofs.skip.Statement.{statement}
 use Rattle.word.proofs.skip.Tie as tie
 
-abbrev invariant-loop : tie.invariant-loop
-invariant-loop word n rest₀ left₀ rest left = (left ≤ length (bits_of rest)) × (drop left (bits_of rest) ≡ drop n (bits_of word))
+abbrev invariant-loop-left : tie.invariant-loop-left
+invariant-loop-left word n rest₀ left₀ rest left = (left ≤ length (bits_of rest)) × (drop left (bits_of rest) ≡ drop n (bits_of word))
 
-abbrev decreases-loop : tie.decreases-loop
-decreases-loop word n rest₀ left₀ rest left = left
+abbrev decreases-loop-left : tie.decreases-loop-left
+decreases-loop-left word n rest₀ left₀ rest left = left
 
 drop_more : (n x : ℕ) (l : List ℕ) → 0 < n → drop n (x ∷ l) ≡ drop (n - 1) l
 drop_more zero x l h = absurd (omega arith)
@@ -25,15 +25,15 @@ pub skip_spec : {M : Type 1} → statement M
 skip_spec =
     tie.close
     (tie.spec
-    invariant-loop
-    decreases-loop
+    invariant-loop-left
+    decreases-loop-left
     (λ c. (c.requires, refl))
-    (λ c κs. bits_some 64 0 c.before.loop.rest (omega arith))
+    (λ c κs. bits_some 64 0 c.before.loop-left.rest (omega arith))
     (λ c. omega arith)
     (λ c. omega arith)
     (λ c.
-    let e = c.lowest.ensures.0 in
-    let l = c.before.before.loop in
+    let e = c.lowest-rest.ensures.0 in
+    let l = c.before.before.loop-left in
     let h : 0 < l.left = omega arith in
-    (omega (arith, ap length e), sym (drop_more l.left c.lowest.result.place _ h) ∙ rw (← e) l.invariant.1))
-    (λ c. let l = c.before.loop in let e : l.left ≡ 0 = omega arith in rw e at l.invariant.1))
+    (omega (arith, ap length e), sym (drop_more l.left c.lowest-rest.result.place _ h) ∙ rw (← e) l.invariant.1))
+    (λ c. let l = c.before.loop-left in let e : l.left ≡ 0 = omega arith in rw e at l.invariant.1))
