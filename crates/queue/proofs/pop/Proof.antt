@@ -17,7 +17,7 @@ pop_spec =
     (λ c.
     let ld = c.before in
     let st = ld.before.before.before in
-    popped_one st.requires.0.0 c.if1.true st.requires.1 ld.load.ensures)
+    popped_one st.requires.0.0 c.if-m-eq0.true st.requires.1 ld.load-top.ensures)
     (λ c κs. search rules)
     (λ c κs. (omega arith, ordered_less _ (omega arith) c.before.before.before.before.before.before.before.requires.1))
     (λ c. search rules)
@@ -26,4 +26,4 @@ pop_spec =
     let l2 = se.before.before in
     let ld = l2.before.before.before in
     let st = ld.before.before.before in
-    popped st.requires.0.0 st.requires.1 ld.load.ensures l2.load2.ensures se.settle.ensures))
+    popped st.requires.0.0 st.requires.1 ld.load-top.ensures l2.load-last.ensures se.settle.ensures))
