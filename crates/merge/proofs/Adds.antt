@@ -12,13 +12,13 @@ use Rattle.model.specs.Tests.{both, pick}
 use Rattle.model.proofs.Tests.{either, never, same_or_not, both_first}
 use Rattle.stats.specs.declared.Stats.{Stats}
 use Rattle.queue.specs.Keys.{key, occ, one, Heap}
-use Rattle.queue.specs.Contracts.{Pushed, Popped}
+use Rattle.queue.specs.Steps.{Pushed, Popped}
 use Rattle.queue.proofs.Keys.{one_same, one-other, occ-some}
 use Rattle.links.specs.Keys.{code}
 use Rattle.links.specs.Pairs.{admits, saves}
 use Rattle.links.specs.Tables.{records, waiting, next, prev, stat_at}
 use Rattle.merge.specs.Rule.{one_if}
-use Rattle.merge.specs.Contracts.{many, Added, pair_is, pair_key, left_is, left_key, right_is, right_key}
+use Rattle.merge.specs.Steps.{many, Added, pair_is, pair_key, left_is, left_key, right_is, right_key}
 
 -- ---- one offer
 

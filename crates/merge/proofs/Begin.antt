@@ -18,7 +18,7 @@ use Rattle.links.specs.Tables.{base, records, waiting, next, prev, stat_at, Star
 use Rattle.links.proofs.Tables.{records-length, records_far}
 use Rattle.links.proofs.Segments.{segment_one}
 use Rattle.merge.specs.Rule.{one_if, cuts_from, pairs, after_joins, later_offers, merged, offers}
-use Rattle.merge.specs.Contracts.{Added, Offering}
+use Rattle.merge.specs.Steps.{Added, Offering}
 use Rattle.merge.proofs.Cuts.{cuts-rising, cuts_in, cuts_meet, meet_order}
 use Rattle.merge.proofs.Links.{Linked}
 use Rattle.merge.proofs.Offers.{one-most}

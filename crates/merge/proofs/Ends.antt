@@ -11,7 +11,7 @@ use Rattle.cost.specs.Forms.{payload}
 use Rattle.links.specs.Pairs.{segment_of, admitted, saving, Seeds}
 use Rattle.links.proofs.Segments.{segment_join, refuses}
 use Rattle.merge.specs.Rule.{counted, after_joins, cuts_from}
-use Rattle.merge.specs.Contracts.{cuts_of}
+use Rattle.merge.specs.Steps.{cuts_of}
 use Rattle.merge.proofs.Cuts.{Meet, meet_order, cuts-rising}
 use Rattle.merge.proofs.Joins.{merged-ends, merged-rising, counted-all}
 

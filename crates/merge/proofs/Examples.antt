@@ -10,7 +10,7 @@ use Rattle.cost.specs.Sizes.{binary, depth_of}
 use Rattle.cost.specs.Forms.{items_form, bitmap_form, dense_form, order_of, lex, key_of, lesser, least, local_offers, local_form, payload}
 use Rattle.links.specs.Pairs.{admits, saves, total_from, segment_of, admitted, saving}
 use Rattle.merge.specs.Rule.{without, cuts_from, one_if, contains, pairs, pairs_with, better, best, after_joins, later_offers, merged, offers}
-use Rattle.merge.specs.Contracts.{cuts_of, offers_of}
+use Rattle.merge.specs.Steps.{cuts_of, offers_of}
 
 -- rows 0, 4096 and 8192
 thrice : ℕ → Stats

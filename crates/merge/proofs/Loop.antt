@@ -10,7 +10,7 @@ use lib.ListN.{length}
 use Rattle.model.proofs.Tests.{either, never}
 use Rattle.stats.specs.declared.Stats.{Stats}
 use Rattle.queue.specs.Keys.{key, Heap}
-use Rattle.queue.specs.Contracts.{Popped}
+use Rattle.queue.specs.Steps.{Popped}
 use Rattle.queue.proofs.Keys.{occ-some}
 use Rattle.links.specs.declared.Pair.{Pair}
 use Rattle.links.specs.Links.{Cuts}
@@ -18,7 +18,7 @@ use Rattle.links.specs.Keys.{code, pair_of}
 use Rattle.links.specs.Pairs.{admitted, saving, Seeds}
 use Rattle.links.specs.Tables.{base, records, waiting, is_live}
 use Rattle.merge.specs.Rule.{none, best}
-use Rattle.merge.specs.Contracts.{Ready, Taken, cuts_of, offers_of, Merged}
+use Rattle.merge.specs.Steps.{Ready, Taken, cuts_of, offers_of, Merged}
 use Rattle.merge.proofs.Joins.{join_end, later_end}
 use Rattle.merge.proofs.Queue.{Offer, best_none}
 use Rattle.merge.proofs.Adds.{Has, popped_in}

@@ -14,7 +14,7 @@ use Rattle.stats.specs.Statistics.{stats_of}
 use Rattle.stats.proofs.Joining.{stats-append, stats-sound, stats_neighbours}
 use Rattle.links.specs.Pairs.{total_from, segment_of, admitted, saving, Seeds, rows_admitted, rows_saving}
 use Rattle.merge.specs.Rule.{merged, offers, cuts_from}
-use Rattle.merge.specs.Contracts.{cuts_of, offers_of}
+use Rattle.merge.specs.Steps.{cuts_of, offers_of}
 use Rattle.merge.proofs.Same.{merged-same, offers-same}
 
 -- `rows l m` are the rows of the seeds from the cut l to the cut m, and f i are the statistics of seed i

@@ -15,7 +15,7 @@ use Rattle.links.specs.Pairs.{segment_of, admitted, saving, Seeds}
 use Rattle.links.specs.Tables.{base, next, prev, stat_at, is_live}
 use Rattle.links.proofs.Segments.{segment_join, segment_neighbours}
 use Rattle.merge.specs.Rule.{cuts_from, after_joins, later_offers, merged, offers}
-use Rattle.merge.specs.Contracts.{joint_of, Ready}
+use Rattle.merge.specs.Steps.{joint_of, Ready}
 use Rattle.merge.proofs.Cuts.{In, Meet, meet_left}
 use Rattle.merge.proofs.Links.{Linked, next-order, next_meets, linked-before}
 use Rattle.merge.proofs.Queue.{Waiting}

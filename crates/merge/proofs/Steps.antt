@@ -12,7 +12,7 @@ use Rattle.queue.specs.Keys.{Heap}
 use Rattle.links.specs.Links.{Cuts}
 use Rattle.links.specs.Tables.{base, records, waiting, field, next, prev, stat_at, linked}
 use Rattle.links.proofs.Tables.{records-length, records-field, read_pair, linked-records, linked-waiting, linked-next, linked-prev, linked_stat, linked-stats}
-use Rattle.merge.specs.Contracts.{Added, joint_of, Left, Right, Ready}
+use Rattle.merge.specs.Steps.{Added, joint_of, Left, Right, Ready}
 use Rattle.merge.proofs.Offers.{one-most}
 
 -- what the offer of the segment before l, read at p, asks

@@ -12,13 +12,13 @@ use borrow.Author.Tests.{lt-ltb, le-ltb, ltb-true}
 use Rattle.model.specs.Tests.{both}
 use Rattle.model.proofs.Tests.{order, same_or_not, both_left, both_right, both_true, both_first}
 use Rattle.stats.specs.declared.Stats.{Stats}
-use Rattle.queue.specs.Contracts.{Popped}
+use Rattle.queue.specs.Steps.{Popped}
 use Rattle.links.specs.Keys.{code}
 use Rattle.links.specs.Pairs.{segment_of, admitted, saving, Seeds}
 use Rattle.links.specs.Tables.{records, waiting, next, prev, stat_at, linked}
 use Rattle.links.proofs.Tables.{linked-length, linked-left, linked_gone, linked-next, linked-right, linked-prev, linked_stat, linked-stats}
 use Rattle.merge.specs.Rule.{pair, one_if, without, best, pairs_with, after_joins, later_offers}
-use Rattle.merge.specs.Contracts.{Added, joint_of, left_is, left_key, right_is, right_key, Joining}
+use Rattle.merge.specs.Steps.{Added, joint_of, left_is, left_key, right_is, right_key, Joining}
 use Rattle.merge.proofs.Cuts.{Meet, In, meet_left, meet_middle, meet_three, in_without, length_without, without_miss}
 use Rattle.merge.proofs.Joins.{join_step, later_step}
 use Rattle.merge.proofs.Links.{Linked, Joined, next-order, linked-before, linked_join}

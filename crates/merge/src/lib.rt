@@ -9,7 +9,7 @@ ghost use Rattle.queue.specs.Keys.{Heap};
 ghost use Rattle.links.specs.Links.{Cuts};
 ghost use Rattle.links.specs.Pairs.{Seeds};
 ghost use Rattle.links.specs.Tables.{base, records, waiting, next, stat_at, is_live};
-ghost use Rattle.merge.specs.Contracts.{Added, pair_is, pair_key, left_is, left_key, right_is, right_key, Left, Right, Ready, Joining, Taken, Offering, Merged, offers_of};
+ghost use Rattle.merge.specs.Steps.{Added, pair_is, pair_key, left_is, left_key, right_is, right_key, Left, Right, Ready, Joining, Taken, Offering, Merged, offers_of};
 
 use links::{Pair, admitted, cell, decode, encode, link, live, saving, segment, start};
 

@@ -4,7 +4,7 @@ use Rattle.std.specs.Prelude.{◌≡◌, List, ℕ, ◌*◌, ◌-◌, ◌<◌, �
 use Rattle.model.specs.Lists.{Rising}
 use Rattle.links.specs.Tables.{records, stat_at}
 use Rattle.links.specs.Pairs.{Seeds}
-use Rattle.merge.specs.Contracts.{Merged, offers_of}
+use Rattle.merge.specs.Steps.{Merged, offers_of}
 use Rattle.planning.specs.Segments.{segments_of, offers_for}
 use Rattle.planning.specs.Bodies.{form_for}
 use Rattle.planning.specs.Held.{Held}

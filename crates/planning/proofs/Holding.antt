@@ -12,7 +12,7 @@ use Rattle.stats.specs.Statistics.{stats_of}
 use Rattle.links.specs.Links.{Chain, link}
 use Rattle.links.specs.Pairs.{Seeds}
 use Rattle.links.specs.Tables.{records, next, stat_at}
-use Rattle.merge.specs.Contracts.{offers_of, Merged}
+use Rattle.merge.specs.Steps.{offers_of, Merged}
 use Rattle.links.proofs.Tables.{records-field, records_stat}
 use Rattle.merge.proofs.Rows.{segment_rows, cuts-rows, offers-rows, rows-seeds}
 use Rattle.planning.specs.Segments.{between, cuts_left, offers_for, pieces, segments_of}

@@ -6,7 +6,7 @@ use Prim.Native.Nat.{ℕ, ◌+◌, ◌*◌, ◌-◌, ◌/◌, ◌<◌, ◌≤◌
 use native.Mathlib.Omega.{arith}
 use lib.ListN.{length, get_or}
 use Rattle.queue.specs.Keys.{key, put, one, occ, Heap}
-use Rattle.queue.specs.Contracts.{Larger, Settled, Pushed, Popped}
+use Rattle.queue.specs.Steps.{Larger, Settled, Pushed, Popped}
 use Rattle.queue.proofs.Keys.{by_eq, Upd, put-length, put_upd, put_rest, occ-more, occ_upd}
 use Rattle.queue.proofs.Order.{Hole, Under, ordered_less, hole_first, hole_last, fill, risen, risen_under, sunk, top}
 

@@ -1,2 +1,2 @@
 pub mod Keys
-pub mod Contracts
+pub mod Steps

@@ -5,7 +5,7 @@
 ghost use Rattle.std.specs.Prelude.{◌≡◌, ◌+◌, ◌*◌, ◌<◌, ◌≤◌, length, take, drop};
 ghost use Rattle.model.specs.Tests.{pick};
 ghost use Rattle.queue.specs.Keys.{key, put, Heap};
-ghost use Rattle.queue.specs.Contracts.{Larger, Settled, Pushed, Popped};
+ghost use Rattle.queue.specs.Steps.{Larger, Settled, Pushed, Popped};
 
 // A function of a word and not of a slice, so that a read asks nothing of the word's size.
 fn wide(x: u32) -> u64

@@ -9,29 +9,29 @@ use Rattle.emit.proofs.Pieces.{Listing, listing_start, listing_room, listing_nex
 use Rattle.emit.proofs.list_run.Statement.{statement}
 use Rattle.emit.proofs.list_run.Tie as tie
 
-abbrev invariant-loop : tie.invariant-loop
-invariant-loop out₀ at start size wide w p₀ i₀ out p i = Listing (width_of wide) start size out₀ at p i out
+abbrev invariant-loop-i : tie.invariant-loop-i
+invariant-loop-i out₀ at start size wide w p₀ i₀ out p i = Listing (width_of wide) start size out₀ at p i out
 
-abbrev decreases-loop : tie.decreases-loop
-decreases-loop out₀ at start size wide w p₀ i₀ out p i = size - i
+abbrev decreases-loop-i : tie.decreases-loop-i
+decreases-loop-i out₀ at start size wide w p₀ i₀ out p i = size - i
 
 pub list_run_spec : {M : Type 1} → statement M
 list_run_spec =
     tie.close
     (tie.spec
-    invariant-loop
-    decreases-loop
+    invariant-loop-i
+    decreases-loop-i
     (λ c κs. search rules)
     (λ c. listing_start _ _ _ _ _)
     (λ c. omega arith)
-    (λ c κs. listing_room _ _ _ _ _ c.before.before.loop.invariant c.before.loop-test.true c.before.before.before.before.before.requires.0)
+    (λ c κs. listing_room _ _ _ _ _ c.before.before.loop-i.invariant c.before.loop-i-test.true c.before.before.before.before.before.requires.0)
     (λ c.
     let k = c.before.before.before.before in
-    omega (arith, listing_room _ _ _ _ _ k.before.loop.invariant k.loop-test.true k.before.before.before.before.requires.0, emitting_length k.before.loop.invariant.so))
+    omega (arith, listing_room _ _ _ _ _ k.before.loop-i.invariant k.loop-i-test.true k.before.before.before.before.requires.0, emitting_length k.before.loop-i.invariant.so))
     (λ c. omega arith)
     (λ c. omega arith)
     (λ c.
     let k = c.before.before.before.before in
-    listing_next _ _ _ _ _ k.before.loop.invariant k.loop-test.true c.before.before.put-field.ensures (rw k.before.before.width.ensures.0))
-    (λ c. emitting_length c.before.loop.invariant.so)
-    (λ c. listing_end _ _ _ _ _ c.before.loop.invariant c.loop-test.false))
+    listing_next _ _ _ _ _ k.before.loop-i.invariant k.loop-i-test.true c.before.before.put_field.ensures (rw k.before.before.width-w.ensures.0))
+    (λ c. emitting_length c.before.loop-i.invariant.so)
+    (λ c. listing_end _ _ _ _ _ c.before.loop-i.invariant c.loop-i-test.false))

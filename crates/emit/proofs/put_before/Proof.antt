@@ -19,5 +19,5 @@ put_before_spec =
     (λ c. search rules)
     (λ c κs. search rules)
     (λ c. search rules)
-    (λ c. c.before.before.put16.ensures ∙ put_low 2 _ _ _ ∙ sym (pick_true _ _ (eq-eqb _ 0 c.before.before.before.before.if1.true)))
-    (λ c. sym (pick_false _ _ (ne_eqb _ 0 c.if1.false))))
+    (λ c. c.before.before.put16.ensures ∙ put_low 2 _ _ _ ∙ sym (pick_true _ _ (eq-eqb _ 0 c.before.before.before.before.if-k-eq0.true)))
+    (λ c. sym (pick_false _ _ (ne_eqb _ 0 c.if-k-eq0.false))))

@@ -12,10 +12,10 @@ unfolding width_of
 put_field_spec =
     tie.close
     (tie.spec
-    (λ c κs. rw c.before.if1.true at c.before.before.before.requires)
+    (λ c κs. rw c.before.if-wide.true at c.before.before.before.requires)
     (λ c. search rules)
-    (λ c κs. rw c.before.if1.false at c.before.before.before.requires)
+    (λ c κs. rw c.before.if-wide.false at c.before.before.before.requires)
     (λ c. search rules)
-    (λ c. rw c.before.before.before.before.if1.true c.before.before.put32.ensures)
+    (λ c. rw c.before.before.before.before.if-wide.true c.before.before.put32.ensures)
     (λ c. search rules)
-    (λ c. rw c.before.before.before.before.if1.false (c.before.before.put16.ensures ∙ put_low 2 _ _ _)))
+    (λ c. rw c.before.before.before.before.if-wide.false (c.before.before.put16.ensures ∙ put_low 2 _ _ _)))

@@ -22,4 +22,4 @@ run_entry_spec =
     (λ c.
     let k = c.before.before.before.before.before.before in
     let m = k.before.before.before in
-    entry-fields _ _ _ _ m.before.before.before.before.before.args.at (ap (λ (w : ℕ). m.before.before.before.before.before.args.at + w) m.before.before.before.width.ensures.0) m.before.put-field.ensures k.put16.ensures c.before.before.put162.ensures refl))
+    entry-fields _ _ _ _ m.before.before.before.before.before.args.at (ap (λ (w : ℕ). m.before.before.before.before.before.args.at + w) m.before.before.before.width.ensures.0) m.before.put_field.ensures k.put16.ensures c.before.before.put16-2.ensures refl))

@@ -10,6 +10,6 @@ more_rows_spec =
     tie.close
     (tie.spec
     (λ c κs. search rules)
-    (λ c. let o = c.before.before.before.single-rows.ensures in onward_upto o (λ h. o.out c.if1.true))
+    (λ c. let o = c.single_rows-single.ensures in onward_upto o (λ h. o.out c.if-single-ahead.true))
     (λ c κs. search rules)
-    (λ c. onward_then c.before.before.before.before.single-rows.ensures c.run-rows.ensures))
+    (λ c. onward_then c.single_rows-single.ensures c.run_rows.ensures))

@@ -11,5 +11,5 @@ unfolding above pick
 above_spec =
     tie.close
     (tie.spec
-    (λ c. rw (eq-eqb _ _ c.if1.true))
-    (λ c. rw (ne_eqb _ _ c.before.if1.false)))
+    (λ c. rw (eq-eqb _ _ c.if-g-eq0.true))
+    (λ c. rw (ne_eqb _ _ c.before.if-g-eq0.false)))

@@ -14,5 +14,5 @@ added_spec =
     (λ c. search rules)
     (λ c κs. search rules)
     (λ c. search rules)
-    (λ c. rw (← c.before.joins.ensures, c.if1.true))
-    (λ c. rw (← c.before.joins.ensures, c.if1.false)))
+    (λ c. rw (← c.before.joins.ensures, c.if-joins.true))
+    (λ c. rw (← c.before.joins.ensures, c.if-joins.false)))

@@ -13,12 +13,12 @@ early_spec =
     tie.close
     (tie.spec
     (λ c κs. search rules)
-    (λ c. rw (← c.before.impossible.ensures, c.if1.true))
-    (λ c. rw (← c.before.before.impossible.ensures, c.before.if1.false, not-true c.before.before.before.args.rising c.if2.true))
+    (λ c. rw (← c.before.impossible.ensures, c.if-impossible.true))
+    (λ c. rw (← c.before.before.impossible.ensures, c.before.if-impossible.false, c.if-not-rising.true))
     (λ c κs. search rules)
     (λ c.
     let d = c.before.before in
-    rw (← d.before.before.impossible.ensures, d.before.if1.false, not-false d.before.before.before.args.rising d.if2.false, ← c.before.too_many.ensures, c.if3.true))
+    rw (← d.before.before.impossible.ensures, d.before.if-impossible.false, d.if-not-rising.false, ← c.before.too_many.ensures, c.if-too_many.true))
     (λ c.
     let d = c.before.before in
-    rw (← d.before.before.impossible.ensures, d.before.if1.false, not-false d.before.before.before.args.rising d.if2.false, ← c.before.too_many.ensures, c.if3.false)))
+    rw (← d.before.before.impossible.ensures, d.before.if-impossible.false, d.if-not-rising.false, ← c.before.too_many.ensures, c.if-too_many.false)))

@@ -11,8 +11,8 @@ unfolding impossible pick
 impossible_spec =
     tie.close
     (tie.spec
-    (λ c. rw (lt-ltb _ _ c.if1.true))
-    (λ c. rw (le-ltb _ _ c.before.before.if1.false, lt-ltb _ _ c.if2.true))
-    (λ c. rw (le-ltb _ _ c.before.before.before.before.if1.false, le-ltb _ _ c.before.before.if2.false, eq-eqb _ _ c.if3.true))
-    (λ c. rw (le-ltb _ _ c.before.before.before.before.before.before.if1.false, le-ltb _ _ c.before.before.before.before.if2.false, ne_eqb _ _ c.before.before.if3.false, eq-eqb _ _ c.if4.true))
-    (λ c. rw (le-ltb _ _ c.before.before.before.before.before.before.before.if1.false, le-ltb _ _ c.before.before.before.before.before.if2.false, ne_eqb _ _ c.before.before.before.if3.false, ne_eqb _ _ c.before.if4.false)))
+    (λ c. rw (lt-ltb _ _ c.if-room-g.true))
+    (λ c. rw (le-ltb _ _ c.before.before.if-room-g.false, lt-ltb _ _ c.if-g.true))
+    (λ c. rw (le-ltb _ _ c.before.before.before.before.if-room-g.false, le-ltb _ _ c.before.before.if-g.false, eq-eqb _ _ c.if-g-eq0.true))
+    (λ c. rw (le-ltb _ _ c.before.before.before.before.before.before.if-room-g.false, le-ltb _ _ c.before.before.before.before.if-g.false, ne_eqb _ _ c.before.before.if-g-eq0.false, eq-eqb _ _ c.if-g-eq0-2.true))
+    (λ c. rw (le-ltb _ _ c.before.before.before.before.before.before.before.if-room-g.false, le-ltb _ _ c.before.before.before.before.before.if-g.false, ne_eqb _ _ c.before.before.before.if-g-eq0.false, ne_eqb _ _ c.before.if-g-eq0-2.false)))

@@ -11,5 +11,5 @@ unfolding late pick
 late_spec =
     tie.close
     (tie.spec
-    (λ c. rw (lt-ltb _ _ c.if1.true))
-    (λ c. rw (le-ltb _ _ c.if1.false)))
+    (λ c. rw (lt-ltb _ _ c.if-room-after.true))
+    (λ c. rw (le-ltb _ _ c.if-room-after.false)))

@@ -13,9 +13,9 @@ row_number_spec =
     (tie.spec
     (λ c κs. search rules)
     (λ c κs. search rules)
-    (λ c. rw (← c.before.before.above.ensures, ← c.before.early.ensures) (sym (first_refuses _ _ c.if1.true)))
-    (λ c κs. (passed _ _ _ _ (sym c.before.early.ensures ∙ c.if1.false)).counted)
+    (λ c. rw (← c.before.before.above.ensures, ← c.before.early-k.ensures) (sym (first_refuses _ _ c.if-k-ne0.true)))
+    (λ c κs. (passed _ _ _ _ (sym c.before.early-k.ensures ∙ c.if-k-ne0.false)).counted)
     (λ c κs. search rules)
     (λ c.
     let d = c.before.before.before in
-    rw (← d.before.above.ensures, ← d.early.ensures, second_decides _ _ c.before.before.if1.false, ← c.before.added.ensures) c.late.ensures))
+    rw (← d.before.above.ensures, ← d.early-k.ensures, second_decides _ _ c.before.before.if-k-ne0.false, ← c.before.added.ensures) c.late.ensures))

@@ -15,4 +15,4 @@ room rows n h =
     (λ e. lt-ltb (65535 - rows) n (omega (arith, ltb-true 65535 (rows + n) e)))
 
 pub too_many_spec : {M : Type 1} → statement M
-too_many_spec = tie.close (tie.spec (λ c. past _ _ c.if1.true) (λ c. room _ _ c.if1.false))
+too_many_spec = tie.close (tie.spec (λ c. past _ _ c.if-rows-gt65535.true) (λ c. room _ _ c.if-rows-gt65535.false))

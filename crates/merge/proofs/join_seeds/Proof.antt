@@ -8,7 +8,7 @@ use lib.ListN.{length}
 use Rattle.stats.specs.declared.Stats.{Stats}
 use Rattle.links.specs.Pairs.{Seeds}
 use Rattle.links.specs.Tables.{records, waiting, stat_at}
-use Rattle.merge.specs.Contracts.{Offering, Merged, offers_of}
+use Rattle.merge.specs.Steps.{Offering, Merged, offers_of}
 use Rattle.merge.proofs.State.{State, state_most}
 use Rattle.merge.proofs.Begin.{begin, seeded, stats-kept}
 use Rattle.merge.proofs.Loop.{turn_asks, turn, end-count, end-merged}

@@ -6,7 +6,7 @@ use native.Mathlib.Omega.{arith}
 use lib.ListN.{length}
 use Rattle.links.specs.Tables.{records, stat_at}
 use Rattle.links.proofs.Segments.{seeds_neighbours}
-use Rattle.merge.specs.Contracts.{Offering}
+use Rattle.merge.specs.Steps.{Offering}
 use Rattle.merge.proofs.Begin.{offering_none, offering_more}
 use Rattle.merge.proofs.offer_all.Statement.{statement}
 use Rattle.merge.proofs.offer_all.Tie as tie

@@ -12,7 +12,7 @@ use lib.Dec.{ltb}
 use Rattle.model.specs.Tests.{pick}
 use Rattle.model.proofs.Tests.{either, pick_true, pick_false}
 use Rattle.queue.specs.Keys.{key}
-use Rattle.queue.specs.Contracts.{Larger}
+use Rattle.queue.specs.Steps.{Larger}
 use Rattle.queue.proofs.larger.Statement.{statement}
 use Rattle.queue.proofs.larger.Tie as tie
 
@@ -37,5 +37,5 @@ larger_spec =
     (λ c κs. search rules)
     (λ c κs. search rules)
     (λ c. search rules)
-    (λ c. added _ _ _ _ c.before.before.before.if1.true (rw (c.before.load2.ensures, c.before.before.load.ensures) at c.one-if.ensures.0))
+    (λ c. added _ _ _ _ c.before.before.before.if-d-m.true (rw (c.before.load-right.ensures, c.before.before.load-left.ensures) at c.one_if.ensures.0))
     (λ c. search rules))

@@ -7,4 +7,4 @@ use Rattle.queue.proofs.one_if.Statement.{statement}
 use Rattle.queue.proofs.one_if.Tie as tie
 
 pub one_if_spec : {M : Type 1} → statement M
-one_if_spec = tie.close (tie.spec (λ c. (sym (pick_true 1 0 c.if1.true), omega arith)) (λ c. (sym (pick_false 1 0 c.if1.false), omega arith)))
+one_if_spec = tie.close (tie.spec (λ c. (sym (pick_true 1 0 c.if-t.true), omega arith)) (λ c. (sym (pick_false 1 0 c.if-t.false), omega arith)))

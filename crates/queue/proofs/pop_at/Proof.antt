@@ -3,7 +3,7 @@
 use native.Mathlib.Omega.{arith}
 use lib.ListN.{length-drop}
 use borrow.Author.Rules.{rules}
-use Rattle.queue.specs.Contracts.{Popped}
+use Rattle.queue.specs.Steps.{Popped}
 use Rattle.model.proofs.Taking.{tail_is}
 use Rattle.queue.proofs.Tail.{tail_back}
 use Rattle.queue.proofs.pop_at.Statement.{statement}

@@ -1,40 +1,33 @@
 -- `queue::push` meets its contract: `Rising` holds at each turn, and the measure is the place of the hole.
 -- Assumes nothing.
 use mathlib.Core.Path.{refl, ◌∙◌}
-use mathlib.Core.Logic.{⊎_elim}
 use native.Mathlib.Omega.{arith}
 use Rattle.queue.proofs.Turns.{Rising, rising-start, rising_turn, rising-end}
+use Rattle.queue.proofs.push.Lts.{else-loop-i-test, then-loop-i-test+then-k-above}
 use Rattle.queue.proofs.push.Statement.{statement}
 use Rattle.queue.proofs.push.Tie as tie
 
-abbrev invariant-loop : tie.invariant-loop
-invariant-loop h₀ n k i₀ h i = Rising h₀ n k h i
+abbrev invariant-loop-i : tie.invariant-loop-i
+invariant-loop-i h₀ n k i₀ h i = Rising h₀ n k h i
 
-abbrev decreases-loop : tie.decreases-loop
-decreases-loop h₀ n k i₀ h i = i
+abbrev decreases-loop-i : tie.decreases-loop-i
+decreases-loop-i h₀ n k i₀ h i = i
 
 pub push_spec : {M : Type 1} → statement M
 push_spec =
     tie.close
     (tie.spec
-    invariant-loop
-    decreases-loop
-    (λ c. rising-start _ c.before.requires.1)
+    invariant-loop-i
+    decreases-loop-i
+    (λ c. rising-start _ c.requires.1)
     (λ c. omega arith)
     (λ c κs. omega arith)
     (λ c κs. omega arith)
     (λ c. omega arith)
     (λ c.
-    let st = c.before.before in
-    let el = st.before.before in
-    let ld = el.before in
-    let at = ld.before.before.before in
-    rising_turn _ at.before.before.requires.0 st.store.ensures at.loop.invariant ld.before.before.loop-test.true ld.load.ensures el.if1.false)
+    rising_turn _ c.requires.0 c.store.ensures c.loop-i.invariant c.loop-i-test.true c.load-above.ensures c.if-k-above.false)
     (λ c κs. omega arith)
-    (λ c. c.before.before.store2.auto.0 ∙ c.before.before.before.before.before.loop.invariant.len)
+    (λ c. c.before.before.store-2.auto.h ∙ c.before.before.before.before.before.loop-i.invariant.len)
     (λ c.
-    let st = c.before.before in
-    let lv = st.before.before in
-    let at = lv.before in
-    rising-end _ at.before.before.requires.0 st.store2.ensures at.loop.invariant refl
-    (λ z. ⊎_elim (λ w. absurd (omega (arith, w.left))) (λ w. omega (arith, w.2.ensures, w.3.taken)) lv.loop-test.branch)))
+    rising-end _ c.requires.0 c.store-2.ensures c.loop-i.invariant refl
+    (λ z. elim c.loop-i-test.branch [ else-loop-i-test w ↦ omega arith | then-loop-i-test+then-k-above w ↦ omega (arith, w.load-above.ensures, w.if-k-above.true) ])))

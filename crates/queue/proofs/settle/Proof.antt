@@ -2,25 +2,25 @@
 -- Assumes nothing.
 use Prim.Native.Nat.{◌-◌}
 use mathlib.Core.Path.{refl, ◌∙◌}
-use mathlib.Core.Logic.{⊎_elim}
 use native.Mathlib.Omega.{arith}
 use Rattle.queue.proofs.Turns.{Sinking, sinking_start, sinking_turn, sinking_end, larger-under}
+use Rattle.queue.proofs.settle.Lts.{else-loop-i-test, then-loop-i-test+then-below-k}
 use Rattle.queue.proofs.settle.Statement.{statement}
 use Rattle.queue.proofs.settle.Tie as tie
 
-abbrev invariant-loop : tie.invariant-loop
-invariant-loop h₀ m k i₀ h i = Sinking h₀ m k h i
+abbrev invariant-loop-i : tie.invariant-loop-i
+invariant-loop-i h₀ m k i₀ h i = Sinking h₀ m k h i
 
-abbrev decreases-loop : tie.decreases-loop
-decreases-loop h₀ m k i₀ h i = m - i
+abbrev decreases-loop-i : tie.decreases-loop-i
+decreases-loop-i h₀ m k i₀ h i = m - i
 
 pub settle_spec : {M : Type 1} → statement M
 settle_spec =
     tie.close
     (tie.spec
-    invariant-loop
-    decreases-loop
-    (λ c. sinking_start _ c.before.requires.0.0 c.before.requires.1)
+    invariant-loop-i
+    decreases-loop-i
+    (λ c. sinking_start _ c.requires.0.0 c.requires.1)
     (λ c. omega arith)
     (λ c. omega arith)
     (λ c. omega arith)
@@ -30,17 +30,9 @@ settle_spec =
     (λ c κs. omega arith)
     (λ c. omega arith)
     (λ c.
-    let st = c.before.before in
-    let el = st.before.before in
-    let ld = el.before in
-    let lg = ld.before.before in
-    let at = lg.before.before.before in
-    sinking_turn _ at.before.before.requires.0.1 st.store.ensures at.loop.invariant lg.larger.ensures ld.load.ensures el.if1.false)
+    sinking_turn _ c.requires.0.1 c.store.ensures c.loop-i.invariant c.larger-child.ensures c.load-below.ensures c.if-below-k.false)
     (λ c κs. omega arith)
-    (λ c. c.before.before.store2.auto.0 ∙ c.before.before.before.before.before.loop.invariant.len)
+    (λ c. c.before.before.store-2.auto.h ∙ c.before.before.before.before.before.loop-i.invariant.len)
     (λ c.
-    let st = c.before.before in
-    let lv = st.before.before in
-    let at = lv.before in
-    sinking_end _ at.before.before.requires.0.1 st.store2.ensures at.loop.invariant refl
-    (⊎_elim (λ w j p q e. absurd (omega (arith, w.left))) (λ w. larger-under w.2.ensures _ (omega (arith, w.4.ensures, w.5.taken))) lv.loop-test.branch)))
+    sinking_end _ c.requires.0.1 c.store-2.ensures c.loop-i.invariant refl
+    (elim c.loop-i-test.branch [ else-loop-i-test w ↦ λ j p q e. absurd (omega (arith, w.loop-i-test.false)) | then-loop-i-test+then-below-k w ↦ larger-under w.larger-child.ensures _ (omega (arith, w.load-below.ensures, w.if-below-k.true)) ])))

@@ -9,13 +9,13 @@ pub part_ok_spec : {M : Type 1} → statement M
 part_ok_spec =
     tie.close
     (tie.spec
-    (λ c κs. entry-room _ _ _ c.before.requires.0 c.before.requires.1)
+    (λ c κs. entry-room _ _ _ c.requires.0 c.requires.1)
     (λ c. search rules)
     (λ c. search rules)
     (λ c. search rules)
     (λ c. search rules)
     (λ c. search rules)
-    (λ c. part-inside _ _ _ c.before.before.before.before.requires.0 c.before.before.before.before.requires.1 c.before.before.entry.ensures)
+    (λ c. part-inside _ _ _ c.requires.0 c.requires.1 c.entry-e.ensures)
     (λ c. search rules)
     (λ c κs. search rules)
-    (λ c. part_checked _ _ c.before.before.before.before.before.entry.ensures c.check.ensures))
+    (λ c. part_checked _ _ c.entry-e.ensures c.check.ensures))

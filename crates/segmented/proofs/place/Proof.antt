@@ -9,34 +9,34 @@ use Rattle.segmented.proofs.Named.{accepted_directory, directory_of, entry_reada
 use Rattle.segmented.proofs.place.Statement.{statement}
 use Rattle.segmented.proofs.place.Tie as tie
 
-bytes : (c : tie.After-shared-slice-known) → Bytes c.before.args.body.now
-bytes c i = (c.shared-slice-known.given i).fits
+bytes : (c : tie.After-shared_slice_known-1) → Bytes c.args.body.now
+bytes c i = (c.shared_slice_known-1.given i).fits
 
 -- the last segment that starts at p or before
-last : (c : tie.Else1) → let a = c.before.before.before.before.args in Placed a.body.now (part_names a.body.now) a.p (c.before.by-start.result - 1)
+last : (c : tie.Else-found-eq0) → let a = c.args in Placed a.body.now (part_names a.body.now) a.p (c.by_start-found.result - 1)
 last c =
-    placed _ _ c.before.before.before.before.requires (bytes c.before.before.before) _ c.before.before.segments.ensures.0 c.before.by-start.ensures c.if1.false
+    placed _ _ c.requires (bytes c.before.before.before) _ c.segments-n.ensures.0 c.by_start-found.ensures c.if-found-eq0.false
 
 pub place_spec : {M : Type 1} → statement M
 place_spec =
     tie.close
     (tie.spec
-    (λ c κs. omega (arith, (directory_of _ _ c.before.requires).room))
-    (λ c κs. omega (arith, (directory_of _ _ c.before.before.requires).room, c.segments.ensures.0))
-    (λ c. no_segment _ _ c.before.before.before.before.requires (bytes c.before.before.before) _ c.before.before.segments.ensures.0 c.before.by-start.ensures c.if1.true)
+    (λ c κs. omega (arith, (directory_of _ _ c.requires).room))
+    (λ c κs. omega (arith, (directory_of _ _ c.requires).room, c.segments-n.ensures.0))
+    (λ c. no_segment _ _ c.requires (bytes c.before.before.before) _ c.segments-n.ensures.0 c.by_start-found.ensures c.if-found-eq0.true)
     (λ c. search rules)
-    (λ c κs. entry-room _ _ _ (accepted_directory _ _ c.before.before.before.before.requires) (last c).inside)
+    (λ c κs. entry-room _ _ _ (accepted_directory _ _ c.requires) (last c).inside)
     (λ c. search rules)
-    (λ c. entry-start _ _ c.before.before.entry.ensures (last c.before.before.before).from)
+    (λ c. entry-start _ _ c.entry-e.ensures (last c.before.before.before).from)
     (λ c. search rules)
     (λ c. search rules)
     (λ c. search rules)
     (λ c.
     let x = c.before.before.before.before.before.before in
-    segment_passed _ _ x.before.before.before.before.requires (bytes x.before.before.before) _ x.before.before.segments.ensures.0 x.before.by-start.ensures x.if1.false c.before.before.before.before.before.entry.ensures c.before.before.if2.true)
+    segment_passed _ _ x.requires (bytes x.before.before.before) _ x.segments-n.ensures.0 x.by_start-found.ensures x.if-found-eq0.false c.entry-e.ensures c.if-e-p.true)
     (λ c κs.
     let x = c.before.before.before.before in
-    (entry_readable _ _ x.before.before.before.before.requires _ (last x).inside c.before.before.before.entry.ensures, entry-start _ _ c.before.before.before.entry.ensures (last x).from))
+    (entry_readable _ _ x.requires _ (last x).inside c.entry-e.ensures, entry-start _ _ c.entry-e.ensures (last x).from))
     (λ c.
     let x = c.before.before.before.before.before in
-    segment_answers _ _ x.before.before.before.before.requires (bytes x.before.before.before) _ x.before.before.segments.ensures.0 x.before.by-start.ensures x.if1.false c.before.before.before.before.entry.ensures c.place_in_lem.ensures))
+    segment_answers _ _ x.requires (bytes x.before.before.before) _ x.segments-n.ensures.0 x.by_start-found.ensures x.if-found-eq0.false c.entry-e.ensures c.place_in.ensures))

@@ -20,12 +20,12 @@ place_in_spec =
     (λ c. search rules)
     (λ c. search rules)
     (λ c. search rules)
-    (λ c κs. part-sized _ _ c.before.before.before.before.before.before.requires.0)
+    (λ c κs. part-sized _ _ c.requires.0)
     (λ c. search rules)
     (λ c κs. search rules)
     (λ c.
-    let e = c.before.before.before.before.before.before.before.before.before.args.e in
-    let local = c.before.before.place.ensures in
+    let e = c.args.e in
+    let local = c.place-local.ensures in
     ap₂ (λ (b : ℕ) (t : Bool). record { below = b; present = t })
-    (c.wrapping-add-u32.ensures ∙ ap (λ (q : Place). (e.ordinal + q.below) % 4294967296) local)
+    (c.wrapping_add_u32.ensures ∙ ap (λ (q : Place). (e.ordinal + q.below) % 4294967296) local)
     (ap (λ (q : Place). q.present) local)))

@@ -19,6 +19,6 @@ select_in_spec =
     (λ c. search rules)
     (λ c. search rules)
     (λ c. search rules)
-    (λ c κs. (part-sized _ _ c.before.before.before.before.before.before.requires.0, omega arith))
+    (λ c κs. (part-sized _ _ c.requires.0, omega arith))
     (λ c κs. search rules)
     (λ c. cc))

@@ -18,6 +18,6 @@ walk_in_spec =
     (λ c. search rules)
     (λ c. search rules)
     (λ c. search rules)
-    (λ c κs. part-sized _ _ c.before.before.before.before.before.before.before.requires)
+    (λ c κs. part-sized _ _ c.requires)
     (λ c. search rules)
-    (λ c. c.before.before.walk.ensures))
+    (λ c. c.walk.ensures))

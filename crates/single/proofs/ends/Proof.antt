@@ -9,19 +9,19 @@ use Rattle.fields.specs.Le.{Bytes}
 use Rattle.single.proofs.ends.Statement.{statement}
 use Rattle.single.proofs.ends.Tie as tie
 
-bytes : (c : tie.After-shared-slice-known) → Bytes c.before.args.part.now
-bytes c i = (c.shared-slice-known.given i).fits
+bytes : (c : tie.After-shared_slice_known-1) → Bytes c.args.part.now
+bytes c i = (c.shared_slice_known-1.given i).fits
 
 pub ends_spec : {M : Type 1} → statement M
 ends_spec =
     tie.close
     (tie.spec
-    (λ c. absurd (omega (arith, (counted-count _ _ (local_counted _ _ _ _ c.before.before.requires)).some, (counted-count _ _ (local_counted _ _ _ _ c.before.before.requires)).within)))
-    (λ c κs. local-sized _ _ _ _ c.before.before.requires)
+    (λ c. absurd (omega (arith, (counted-count _ _ (local_counted _ _ _ _ c.requires)).some, (counted-count _ _ (local_counted _ _ _ _ c.requires)).within)))
+    (λ c κs. local-sized _ _ _ _ c.requires)
     (λ c. search rules)
-    (λ c κs. local-sized _ _ _ _ c.before.before.before.requires)
+    (λ c κs. local-sized _ _ _ _ c.requires)
     (λ c.
     let st = c.before.before.before in
-    let ok = st.before.requires in
+    let ok = st.requires in
     and_both _ _
-    ∙ ap₂ both (present_is _ 0 (c.before.place.ensures ∙ local_place_lem _ _ _ _ ok (bytes st) 0)) (present_is _ _ (c.place2.ensures ∙ local_place_lem _ _ _ _ ok (bytes st) _))))
+    ∙ ap₂ both (present_is _ 0 (c.place-first.ensures ∙ local_place_lem _ _ _ _ ok (bytes st) 0)) (present_is _ _ (c.place-last.ensures ∙ local_place_lem _ _ _ _ ok (bytes st) _))))

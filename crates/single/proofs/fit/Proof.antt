@@ -13,5 +13,5 @@ fit_spec =
     tie.close
     (tie.spec
     (λ c. search rules)
-    (λ c. rw (le-leb _ _ c.if1.true))
-    (λ c. rw (lt-leb _ _ c.if1.false)))
+    (λ c. rw (le-leb _ _ c.if-n-le65535.true))
+    (λ c. rw (lt-leb _ _ c.if-n-le65535.false)))

@@ -11,7 +11,7 @@ unfolding header_of pick
 header_spec =
     tie.close
     (tie.spec
-    (λ c. (rw c.if1.true, search rules))
-    (λ c. (rw (ne_eqb _ _ c.before.if1.false, lt-ltb _ _ c.if2.true), search rules))
-    (λ c. (rw (ne_eqb _ _ c.before.before.if1.false, le-ltb _ _ c.before.if2.false, lt-ltb _ _ c.if3.true), search rules))
-    (λ c. (rw (ne_eqb _ _ c.before.before.if1.false, le-ltb _ _ c.before.if2.false, le-ltb _ _ c.if3.false), search rules)))
+    (λ c. (rw c.if-tag-eq8.true, search rules))
+    (λ c. (rw (ne_eqb _ _ c.if-tag-eq8.false, lt-ltb _ _ c.if-tag-lt4.true), search rules))
+    (λ c. (rw (ne_eqb _ _ c.if-tag-eq8.false, le-ltb _ _ c.if-tag-lt4.false, lt-ltb _ _ c.if-tag-lt8.true), search rules))
+    (λ c. (rw (ne_eqb _ _ c.if-tag-eq8.false, le-ltb _ _ c.if-tag-lt4.false, le-ltb _ _ c.if-tag-lt8.false), search rules)))

@@ -13,9 +13,9 @@ unfolding view_place
 place_spec =
     tie.close
     (tie.spec
-    (λ c. sym (pick_true _ _ (lt-ltb _ _ c.if1.true)))
+    (λ c. sym (pick_true _ _ (lt-ltb _ _ c.if-p-v.true)))
     (λ c. search rules)
     (λ c. search rules)
     (λ c. search rules)
-    (λ c κs. lent_sized _ _ c.before.before.before.before.before.requires)
-    (λ c. rw (tail_is _ _) at c.place.ensures ∙ sym (pick_false _ _ (le-ltb _ _ c.before.before.before.if1.false))))
+    (λ c κs. lent_sized _ _ c.requires)
+    (λ c. rw (tail_is _ _) at c.place.ensures ∙ sym (pick_false _ _ (le-ltb _ _ c.if-p-v.false))))

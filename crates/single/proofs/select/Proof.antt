@@ -15,6 +15,6 @@ select_spec =
     (λ c. search rules)
     (λ c. search rules)
     (λ c. search rules)
-    (λ c κs. (lent_sized _ _ c.before.before.requires.0, c.before.before.requires.1))
+    (λ c κs. (lent_sized _ _ c.requires.0, c.requires.1))
     (λ c κs. search rules)
-    (λ c. c.wrapping-add-u32.ensures ∙ ap (λ (x : ℕ). (c.before.before.before.before.args.v.base + x) % 4294967296) (rw (tail_is _ _) at c.before.select.ensures)))
+    (λ c. c.wrapping_add_u32.ensures ∙ ap (λ (x : ℕ). (c.args.v.base + x) % 4294967296) (rw (tail_is _ _) at c.select.ensures)))

@@ -15,6 +15,6 @@ walk_spec =
     (λ c. search rules)
     (λ c. search rules)
     (λ c. search rules)
-    (λ c κs. lent_sized _ _ c.before.before.before.before.requires)
+    (λ c κs. lent_sized _ _ c.requires)
     (λ c. search rules)
-    (λ c. rw (tail_is _ _) at c.before.before.walk.ensures))
+    (λ c. rw (tail_is _ _) at c.walk.ensures))

@@ -16,4 +16,4 @@ join_spec =
     (λ c. search rules)
     (λ c. search rules)
     (λ c. search rules)
-    (λ c. rw (c.before.before.before.before.one-if.ensures.0, add-one)))
+    (λ c. rw (c.before.before.before.before.one_if-touch.ensures.0, add-one)))

@@ -7,4 +7,4 @@ use Rattle.stats.proofs.one_if.Tie as tie
 
 pub one_if_spec : {M : Type 1} → statement M
 unfolding pick
-one_if_spec = tie.close (tie.spec (λ c. rw c.if1.true (search rules)) (λ c. rw c.if1.false (search rules)))
+one_if_spec = tie.close (tie.spec (λ c. rw c.if-t.true (search rules)) (λ c. rw c.if-t.false (search rules)))

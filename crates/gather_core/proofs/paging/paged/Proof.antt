@@ -12,5 +12,5 @@ paged_spec =
     (λ c κs. search rules)
     (λ c κs. search rules)
     (λ c κs. search rules)
-    (λ c. c.seeded.ensures ∙ sym (paged-one _ _ (sym c.before.before.one-seed.ensures ∙ c.before.if1.true)))
-    (λ c. c.added-all.ensures ∙ sym (paged-rows _ _ (sym c.before.before.one-seed.ensures ∙ c.before.if1.false))))
+    (λ c. c.seeded.ensures ∙ sym (paged-one _ _ (sym c.before.before.one_seed.ensures ∙ c.before.if-one_seed.true)))
+    (λ c. c.added_all.ensures ∙ sym (paged-rows _ _ (sym c.before.before.one_seed.ensures ∙ c.before.if-one_seed.false))))

@@ -6,15 +6,15 @@ use Rattle.gather_core.proofs.Pages.{paged-rows, paged_rows_to}
 use Rattle.gather_core.proofs.paging.put_page.Statement.{statement}
 use Rattle.gather_core.proofs.paging.put_page.Tie as tie
 
-many : (c : tie.Else1) → one_seed c.before.before.before.before.args.rows.now ≡ false
-many c = sym c.before.one-seed.ensures ∙ c.if1.false
+many : (c : tie.Else-one_seed) → one_seed c.before.before.before.before.args.rows.now ≡ false
+many c = sym c.before.one_seed.ensures ∙ c.if-one_seed.false
 
 pub put_page_spec : {M : Type 1} → statement M
 put_page_spec =
     tie.close
     (tie.spec
     (λ c κs. search rules)
-    (λ c κs. (c.before.before.before.before.before.requires, sym c.before.before.one-seed.ensures ∙ c.before.if1.true))
+    (λ c κs. (c.before.before.before.before.before.requires, sym c.before.before.one_seed.ensures ∙ c.before.if-one_seed.true))
     (λ c κs.
     let s = c.before.before.before.before.before in
     (s.requires.counted, rw (← paged-rows s.args.g s.args.rows.now (many c.before)) s.requires.in_room))
@@ -23,5 +23,5 @@ put_page_spec =
     (λ c. search rules)
     (λ c.
     let m = many c.before.before.before.before in
-    let w = c.before.before.put-rows.ensures in
+    let w = c.before.before.put_rows.ensures in
     (w.0 ∙ sym (paged-rows _ _ m), w.1 ∙ sym (paged_rows_to _ _ _ m))))

@@ -13,7 +13,7 @@ put_seed_spec =
     tie.close
     (tie.spec
     (λ c κs. search rules)
-    (λ c κs. rw c.seeded.ensures c.before.before.before.requires.0.counted.few)
+    (λ c κs. rw c.seeded-next.ensures c.before.before.before.requires.0.counted.few)
     (λ c. search rules)
     (λ c.
     let s = c.before.before.before.before in
@@ -21,4 +21,4 @@ put_seed_spec =
     (λ c. search rules)
     (λ c.
     let o = c.before.before.before.before.requires.1 in
-    (c.before.seeded.ensures ∙ sym (paged-one _ _ o), rw (c.end_of_lem.ensures, c.before.seeded.ensures) (sym (paged_one_to _ _ _ o)))))
+    (c.before.seeded-next.ensures ∙ sym (paged-one _ _ o), rw (c.end_of.ensures, c.before.seeded-next.ensures) (sym (paged_one_to _ _ _ o)))))

@@ -10,12 +10,12 @@ pub rises_spec : {M : Type 1} → statement M
 rises_spec =
     tie.close
     (tie.spec
-    (λ c. sym (rises-none _ c.if1.true))
+    (λ c. sym (rises-none _ c.if-rows-eq0.true))
     (λ c. search rules)
     (λ c κs. search rules)
     (λ c.
     let rows = c.before.before.before.before.before.args.rows.now in
-    let some : 0 < length rows = omega (arith, c.before.before.before.if1.false) in
-    sym (ap rises (drop-cons rows 0 0 some) ∙ c.before.rises-closely.ensures c.if2.true))
+    let some : 0 < length rows = omega (arith, c.before.before.before.if-rows-eq0.false) in
+    sym (ap rises (drop-cons rows 0 0 some) ∙ c.before.rises_closely.ensures c.if-rises_closely.true))
     (λ c κs. search rules)
     (λ c. search rules))

@@ -6,19 +6,19 @@ use Rattle.gather_core.proofs.Steps.{stepped_none, behind_more}
 use Rattle.gather_core.proofs.rising.steps.Statement.{statement}
 use Rattle.gather_core.proofs.rising.steps.Tie as tie
 
-abbrev invariant-loop : tie.invariant-loop
-invariant-loop first rows from least₀ before₀ i₀ least before i =
+abbrev invariant-loop-i : tie.invariant-loop-i
+invariant-loop-i first rows from least₀ before₀ i₀ least before i =
     (from ≤ i) × ((i ≤ length rows) × ((before ≡ get_or (first ∷ drop from rows) (i - from) 0) × Stepped least (first ∷ drop from rows) (i - from)))
 
-abbrev decreases-loop : tie.decreases-loop
-decreases-loop first rows from least₀ before₀ i₀ least before i = length rows - i
+abbrev decreases-loop-i : tie.decreases-loop-i
+decreases-loop-i first rows from least₀ before₀ i₀ least before i = length rows - i
 
 pub steps_spec : {M : Type 1} → statement M
 steps_spec =
     tie.close
     (tie.spec
-    invariant-loop
-    decreases-loop
+    invariant-loop-i
+    decreases-loop-i
     (λ c.
     let a = c.before.args in
     let z : a.from - a.from ≡ 0 = omega arith in
@@ -29,9 +29,9 @@ steps_spec =
     (λ c. search rules)
     (λ c. search rules)
     (λ c.
-    let l = c.before.before.before.loop in
-    let d = c.wrapping-sub-u64 in
-    (omega (arith, l.invariant.0), (omega arith, behind_more _ _ _ _ _ l.i l.invariant.0 (c.before.shared-slice-known2.given l.i).fits d.type-inv (d.ensures ∙ l.invariant.1.1.0) l.invariant.1.1.1)))
+    let l = c.before.before.before.loop-i in
+    let d = c.wrapping_sub_u64-least in
+    (omega (arith, l.invariant.0), (omega arith, behind_more _ _ _ _ _ l.i l.invariant.0 (c.before.shared_slice_known-in-loop-i-1.given l.i).fits d.type_inv (d.ensures ∙ l.invariant.1.1.0) l.invariant.1.1.1)))
     (λ c.
-    let e : c.before.loop.i ≡ length c.before.before.before.args.rows.now = omega (arith, c.before.loop.invariant.1.0) in
-    rw e at c.before.loop.invariant.1.1.1))
+    let e : c.before.loop-i.i ≡ length c.before.before.before.args.rows.now = omega (arith, c.before.loop-i.invariant.1.0) in
+    rw e at c.before.loop-i.invariant.1.1.1))

@@ -8,18 +8,18 @@ use Rattle.stats.proofs.RunByRun.{Counting, counting_start, counting_next, count
 use Rattle.stats.proofs.rows.count_runs.Statement.{statement}
 use Rattle.stats.proofs.rows.count_runs.Tie as tie
 
-abbrev invariant-loop : tie.invariant-loop
-invariant-loop rows runs₀ i₀ runs i = Counting rows runs i
+abbrev invariant-loop-i : tie.invariant-loop-i
+invariant-loop-i rows runs₀ i₀ runs i = Counting rows runs i
 
-abbrev decreases-loop : tie.decreases-loop
-decreases-loop rows runs₀ i₀ runs i = length rows - i
+abbrev decreases-loop-i : tie.decreases-loop-i
+decreases-loop-i rows runs₀ i₀ runs i = length rows - i
 
 pub count_runs_spec : {M : Type 1} → statement M
 count_runs_spec =
     tie.close
     (tie.spec
-    invariant-loop
-    decreases-loop
+    invariant-loop-i
+    decreases-loop-i
     (λ c. counting_start _)
     (λ c. search rules)
     (λ c. search rules)
@@ -27,13 +27,13 @@ count_runs_spec =
     (λ c. search rules)
     (λ c. search rules)
     (λ c. search rules)
-    (λ c κs. c.before.before.before.before.before.requires.2 _ c.before.before.loop-test.true)
+    (λ c κs. c.before.before.before.before.before.requires.2 _ c.before.before.loop-i-test.true)
     (λ c κs. search rules)
     (λ c. search rules)
     (λ c. search rules)
     (λ c. search rules)
     (λ c.
     let turn = c.before.before.before.before in
-    counting_next _ _ _ turn.before.loop.invariant turn.loop-test.true c.before.touches.ensures c.one-unless.ensures)
-    (λ c. let s = c.before.before.before.requires in let v = c.before.loop.invariant in omega (arith, s.0, s.1, v.few, v.within))
-    (λ c. counting_end _ _ _ c.before.loop.invariant c.before.before.before.requires.0 c.loop-test.false))
+    counting_next _ _ _ turn.before.loop-i.invariant turn.loop-i-test.true c.before.touches.ensures c.one_unless-runs.ensures)
+    (λ c. let s = c.before.before.before.requires in let v = c.before.loop-i.invariant in omega (arith, s.0, s.1, v.few, v.within))
+    (λ c. counting_end _ _ _ c.before.loop-i.invariant c.before.before.before.requires.0 c.loop-i-test.false))

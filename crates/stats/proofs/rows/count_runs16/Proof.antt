@@ -8,18 +8,18 @@ use Rattle.stats.proofs.RunByRun.{Counting, counting_start, counting_next, count
 use Rattle.stats.proofs.rows.count_runs16.Statement.{statement}
 use Rattle.stats.proofs.rows.count_runs16.Tie as tie
 
-abbrev invariant-loop : tie.invariant-loop
-invariant-loop ordinals runs₀ i₀ runs i = Counting ordinals runs i
+abbrev invariant-loop-i : tie.invariant-loop-i
+invariant-loop-i ordinals runs₀ i₀ runs i = Counting ordinals runs i
 
-abbrev decreases-loop : tie.decreases-loop
-decreases-loop ordinals runs₀ i₀ runs i = length ordinals - i
+abbrev decreases-loop-i : tie.decreases-loop-i
+decreases-loop-i ordinals runs₀ i₀ runs i = length ordinals - i
 
 pub count_runs16_spec : {M : Type 1} → statement M
 count_runs16_spec =
     tie.close
     (tie.spec
-    invariant-loop
-    decreases-loop
+    invariant-loop-i
+    decreases-loop-i
     (λ c. counting_start _)
     (λ c. search rules)
     (λ c. search rules)
@@ -34,6 +34,6 @@ count_runs16_spec =
     (λ c. search rules)
     (λ c.
     let turn = c.before.before.before.before in
-    counting_next _ _ _ turn.before.loop.invariant turn.loop-test.true c.before.touches16.ensures c.one-unless.ensures)
-    (λ c. let s = c.before.before.before.requires in let v = c.before.loop.invariant in omega (arith, s.0, s.1, v.few, v.within))
-    (λ c. counting_end _ _ _ c.before.loop.invariant c.before.before.before.requires.0 c.loop-test.false))
+    counting_next _ _ _ turn.before.loop-i.invariant turn.loop-i-test.true c.before.touches16.ensures c.one_unless-runs.ensures)
+    (λ c. let s = c.before.before.before.requires in let v = c.before.loop-i.invariant in omega (arith, s.0, s.1, v.few, v.within))
+    (λ c. counting_end _ _ _ c.before.loop-i.invariant c.before.before.before.requires.0 c.loop-i-test.false))

@@ -18,4 +18,4 @@ less_one : (a b : ℕ) → (b ≡ 0 → ⊥) → eqb (b - 1) a ≡ eqb b (suc a)
 less_one a b n = same_eqb (b - 1) a b (suc a) (λ e. omega (arith, n)) (λ e. omega arith)
 
 pub follows_spec : {M : Type 1} → statement M
-follows_spec = tie.close (tie.spec (λ c. never _ _ c.if1.true) (λ c. search rules) (λ c. less_one _ _ c.if1.false))
+follows_spec = tie.close (tie.spec (λ c. never _ _ c.if-b-eq0.true) (λ c. search rules) (λ c. less_one _ _ c.if-b-eq0.false))

@@ -18,4 +18,4 @@ ordinals_stats_spec =
     (λ c. search rules)
     (λ c κs. search rules)
     (λ c. search rules)
-    (λ c. rw (c.before.before.wide.ensures, c.wide2.ensures, c.before.before.before.before.count-runs16.ensures)))
+    (λ c. rw (c.before.before.wide.ensures, c.wide-2.ensures, c.before.before.before.before.count_runs16-runs.ensures)))

@@ -23,4 +23,4 @@ rows_stats_spec =
     (λ c. let s = c.before.before.before.before.before.before in omega (arith, covered-few s.args.start s.args.rows.now s.requires))
     (λ c.
     let s = c.before.before.before.before.before.before in
-    rw (c.before.before.position.ensures, c.position2.ensures, c.before.before.before.before.count_runs.ensures) (sym (stats-rows _ _ s.requires))))
+    rw (c.before.before.position.ensures, c.position-2.ensures, c.before.before.before.before.count_runs-runs.ensures) (sym (stats-rows _ _ s.requires))))
