@@ -11,6 +11,6 @@ check_spec =
     tie.close
     (tie.spec
     (λ c κs. search rules)
-    (λ c. c.check.ensures ∙ sym (accepts_nine _ _ _ c.before.if1.true))
+    (λ c. c.check.ensures ∙ sym (accepts_nine _ _ _ c.if-tag-eq9.true))
     (λ c κs. search rules)
-    (λ c. c.check2.ensures ∙ sym (accepts-other _ _ _ c.before.if1.false)))
+    (λ c. c.check-2.ensures ∙ sym (accepts-other _ _ _ c.if-tag-eq9.false)))

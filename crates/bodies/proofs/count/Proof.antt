@@ -6,14 +6,14 @@ use native.Mathlib.Omega.{arith}
 use Rattle.bodies.proofs.count.Statement.{statement}
 use Rattle.bodies.proofs.count.Tie as tie
 
-bytes : (c : tie.After-shared-slice-known) → Bytes c.before.args.body.now
-bytes c i = (c.shared-slice-known.given i).fits
+bytes : (c : tie.After-shared_slice_known-1) → Bytes c.args.body.now
+bytes c i = (c.shared_slice_known-1.given i).fits
 
 pub count_spec : {M : Type 1} → statement M
 count_spec =
     tie.close
     (tie.spec
-    (λ c κs. omega (arith, nine_room _ _ _ c.before.before.requires c.if1.true))
-    (λ c. nine_count _ _ _ c.before.before.before.requires c.before.if1.true (bytes c.before.before) c.read16.ensures)
-    (λ c κs. other_header _ _ _ c.before.before.requires c.if1.false)
-    (λ c. other-count _ _ _ c.before.before.before.requires c.before.if1.false c.parse.ensures (bytes c.before.before)))
+    (λ c κs. omega (arith, nine_room _ _ _ c.requires c.if-tag-eq9.true))
+    (λ c. nine_count _ _ _ c.requires c.if-tag-eq9.true (bytes c.before.before) c.read16.ensures)
+    (λ c κs. other_header _ _ _ c.requires c.if-tag-eq9.false)
+    (λ c. other-count _ _ _ c.requires c.if-tag-eq9.false c.parse.ensures (bytes c.before.before)))

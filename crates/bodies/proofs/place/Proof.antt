@@ -5,15 +5,15 @@ use Rattle.bodies.proofs.Laws.{nine, names_nine, other_header, other_readable, o
 use Rattle.bodies.proofs.place.Statement.{statement}
 use Rattle.bodies.proofs.place.Tie as tie
 
-bytes : (c : tie.After-shared-slice-known) → Bytes c.before.args.body.now
-bytes c i = (c.shared-slice-known.given i).fits
+bytes : (c : tie.After-shared_slice_known-1) → Bytes c.args.body.now
+bytes c i = (c.shared_slice_known-1.given i).fits
 
 pub place_spec : {M : Type 1} → statement M
 place_spec =
     tie.close
     (tie.spec
-    (λ c κs. nine _ _ _ c.before.before.requires c.if1.true)
-    (λ c. rw (names_nine _ _ _ c.before.if1.true) c.place.ensures)
-    (λ c κs. other_header _ _ _ c.before.before.requires c.if1.false)
-    (λ c κs. other_readable _ _ _ c.before.before.before.requires c.before.if1.false c.parse.ensures)
-    (λ c. other_place _ _ _ c.before.before.before.before.requires c.before.before.if1.false c.before.parse.ensures (bytes c.before.before.before) _ c.place2.ensures))
+    (λ c κs. nine _ _ _ c.requires c.if-tag-eq9.true)
+    (λ c. rw (names_nine _ _ _ c.if-tag-eq9.true) c.place.ensures)
+    (λ c κs. other_header _ _ _ c.requires c.if-tag-eq9.false)
+    (λ c κs. other_readable _ _ _ c.requires c.if-tag-eq9.false c.parse.ensures)
+    (λ c. other_place _ _ _ c.requires c.if-tag-eq9.false c.parse.ensures (bytes c.before.before.before) _ c.place-2.ensures))

@@ -9,9 +9,9 @@ pub ranks_spec : {M : Type 1} → statement M
 ranks_spec =
     tie.close
     (tie.spec
-    (λ c κs. let pre = c.before.before.before.before.before.requires in (nine _ _ _ pre.0 c.before.if1.true, pre.1))
+    (λ c κs. let pre = c.requires in (nine _ _ _ pre.0 c.if-tag-eq9.true, pre.1))
     (λ c. search rules)
-    (λ c. rw (names_nine _ _ _ c.before.before.before.before.if1.true) c.before.before.ranks.ensures)
-    (λ c κs. let pre = c.before.before.before.before.before.requires in (other _ _ _ pre.0 c.before.if1.false, pre.1))
+    (λ c. rw (names_nine _ _ _ c.if-tag-eq9.true) c.ranks.ensures)
+    (λ c κs. let pre = c.requires in (other _ _ _ pre.0 c.if-tag-eq9.false, pre.1))
     (λ c. search rules)
-    (λ c. rw (names-other _ _ _ c.before.before.before.before.if1.false) c.before.before.ranks2.ensures))
+    (λ c. rw (names-other _ _ _ c.if-tag-eq9.false) c.ranks-2.ensures))

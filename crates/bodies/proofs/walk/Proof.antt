@@ -7,17 +7,17 @@ use borrow.Author.Rules.{rules}
 use Rattle.bodies.proofs.walk.Statement.{statement}
 use Rattle.bodies.proofs.walk.Tie as tie
 
-bytes : (c : tie.After-shared-slice-known) → Bytes c.before.args.body.now
-bytes c i = (c.shared-slice-known.given i).fits
+bytes : (c : tie.After-shared_slice_known-1) → Bytes c.args.body.now
+bytes c i = (c.shared_slice_known-1.given i).fits
 
 pub walk_spec : {M : Type 1} → statement M
 walk_spec =
     tie.close
     (tie.spec
-    (λ c κs. nine _ _ _ c.before.before.before.before.requires c.before.if1.true)
+    (λ c κs. nine _ _ _ c.requires c.if-tag-eq9.true)
     (λ c. search rules)
-    (λ c. rw (names_nine _ _ _ c.before.before.before.before.if1.true) c.before.before.walk.ensures)
-    (λ c κs. other_header _ _ _ c.before.before.before.requires c.if1.false)
-    (λ c κs. other_readable _ _ _ c.before.before.before.before.before.requires c.before.before.if1.false c.before.parse.ensures)
+    (λ c. rw (names_nine _ _ _ c.if-tag-eq9.true) c.walk.ensures)
+    (λ c κs. other_header _ _ _ c.requires c.if-tag-eq9.false)
+    (λ c κs. other_readable _ _ _ c.requires c.if-tag-eq9.false c.parse.ensures)
     (λ c. search rules)
-    (λ c. rw (other_walk _ _ _ c.before.before.before.before.before.before.before.before.requires c.before.before.before.before.before.if1.false c.before.before.before.before.parse.ensures (bytes c.before.before.before.before.before.before.before) (omega arith) _ _) at c.before.before.walk2.ensures))
+    (λ c. rw (other_walk _ _ _ c.requires c.if-tag-eq9.false c.parse.ensures (bytes c.before.before.before.before.before.before.before) (omega arith) _ _) at c.walk-2.ensures))

@@ -8,36 +8,36 @@ use Rattle.emit.proofs.Looking.{unbroken_joined, sight_found, sight_none}
 use Rattle.emit_ordinals.proofs.look16.Statement.{statement}
 use Rattle.emit_ordinals.proofs.look16.Tie as tie
 
-abbrev invariant-loop : tie.invariant-loop
-invariant-loop ordinals from at₀ at = from ≤ at
+abbrev invariant-loop-at : tie.invariant-loop-at
+invariant-loop-at ordinals from at₀ at = from ≤ at
 
-abbrev decreases-loop : tie.decreases-loop
-decreases-loop ordinals from at₀ at = from + 96 - at
+abbrev decreases-loop-at : tie.decreases-loop-at
+decreases-loop-at ordinals from at₀ at = from + 96 - at
 
 -- 32 rows without a break
-block : (c : tie.Then1 invariant-loop decreases-loop) → Unbroken c.before.before.before.before.before.args.ordinals.now c.before.before.before.loop.at (c.before.before.before.loop.at + 31)
-block c = c.before.unbroken16.ensures c.if1.true
+block : (c : tie.Then-unbroken16 invariant-loop-at decreases-loop-at) → Unbroken c.args.ordinals.now c.loop-at.at (c.loop-at.at + 31)
+block c = c.unbroken16.ensures c.if-unbroken16.true
 
 pub look16_spec : {M : Type 1} → statement M
 look16_spec =
     tie.close
     (tie.spec
-    invariant-loop
-    decreases-loop
+    invariant-loop-at
+    decreases-loop-at
     (λ c. omega arith)
     (λ c. omega arith)
     (λ c. omega arith)
-    (λ c κs. (c.before.before.before.requires.0, omega arith))
-    (λ c κs. let u = block c in (c.before.before.before.before.before.requires.0, c.before.before.before.loop.invariant, omega arith))
+    (λ c κs. (c.requires.0, omega arith))
+    (λ c κs. let u = block c in (c.requires.0, c.loop-at.invariant, omega arith))
     (λ c. omega arith)
-    (λ c κs. (c.before.before.before.before.before.before.requires.0, (block c.before).inside))
-    (λ c. let u = c.run-last16.ensures in omega arith)
+    (λ c κs. (c.requires.0, (block c.before).inside))
+    (λ c. let u = c.run_last16-last.ensures in omega arith)
     (λ c.
-    let u = c.run-last16.ensures in
-    (sight_found (unbroken_joined c.before.run-first16.ensures (unbroken_joined (block c.before.before) u)) (omega arith), omega (arith, c.before.before.before.before.before.loop.invariant)))
+    let u = c.run_last16-last.ensures in
+    (sight_found (unbroken_joined c.run_first16-start.ensures (unbroken_joined (block c.before.before) u)) (omega arith), omega (arith, c.loop-at.invariant)))
     (λ c. omega arith)
     (λ c. omega arith)
     (λ c. omega arith)
     (λ c. omega arith)
     (λ c κs. search rules)
-    (λ c. (sight_none (omega (arith, c.least.ensures)), omega (arith, c.least.ensures))))
+    (λ c. (sight_none (omega (arith, c.least-none.ensures)), omega (arith, c.least-none.ensures))))

@@ -15,50 +15,50 @@ use Rattle.emit.proofs.Loops.{row_at, ends, missing_ahead, missing-fits, missing
 use Rattle.emit_ordinals.proofs.missing_ordinals.Statement.{statement}
 use Rattle.emit_ordinals.proofs.missing_ordinals.Tie as tie
 
-abbrev invariant-loop : tie.invariant-loop
-invariant-loop out₀ at ordinals base span p₀ from₀ i₀ out p from i = Rowing (missing_form span) span (positions_of base ordinals) out₀ at p i from out
+abbrev invariant-loop-i : tie.invariant-loop-i
+invariant-loop-i out₀ at ordinals base span p₀ from₀ i₀ out p from i = Rowing (missing_form span) span (positions_of base ordinals) out₀ at p i from out
 
-abbrev decreases-loop : tie.decreases-loop
-decreases-loop out₀ at ordinals base span p₀ from₀ i₀ out p from i = length ordinals - i
+abbrev decreases-loop-i : tie.decreases-loop-i
+decreases-loop-i out₀ at ordinals base span p₀ from₀ i₀ out p from i = length ordinals - i
 
 -- the run at hand
-front : (c : tie.After-position16 invariant-loop decreases-loop) → Ahead c.before.before.before.before.loop.from c.before.before.before.before.before.before.before.args.span c.position16.result (c.before.before.run-end16.result - c.before.before.before.before.loop.i)
+front : (c : tie.After-position16-first invariant-loop-i decreases-loop-i) → Ahead c.loop-i.from c.args.span c.position16-first.result (c.run_end16-j.result - c.loop-i.i)
 front c =
-    let g = c.before.before.before.before.before.before.before.requires in
-    missing_ahead _ _ _ _ _ g.0 g.1 c.before.before.before.before.loop.invariant c.before.before.before.loop-test.true c.position16.ensures c.before.before.run-end16.ensures
+    let g = c.requires in
+    missing_ahead _ _ _ _ _ g.0 g.1 c.loop-i.invariant c.loop-i-test.true c.position16-first.ensures c.run_end16-j.ensures
 
 pub missing_ordinals_spec : {M : Type 1} → statement M
 unfolding width_of
 missing_ordinals_spec =
     tie.close
     (tie.spec
-    invariant-loop
-    decreases-loop
-    (λ c. start-rows _ _ _ _ _ _ c.before.before.requires.0)
+    invariant-loop-i
+    decreases-loop-i
+    (λ c. start-rows _ _ _ _ _ _ c.requires.0)
     (λ c κs. search rules)
     (λ c. search rules)
     (λ c. search rules)
-    (λ c κs. (row_at c.before.before.before.before.before.before.requires.0 _ c.before.before.loop-test.true).0)
+    (λ c κs. (row_at c.requires.0 _ c.loop-i-test.true).0)
     (λ c. omega (arith, (front c.before).after))
     (λ c κs.
     let k = c.before.before.before.before in
-    let g = k.before.before.before.before.requires in
+    let g = k.requires in
     let a = front c.before in
-    (missing-fits _ _ _ _ _ g.0 g.1 k.before.loop.invariant k.loop-test.true c.before.position16.ensures c.before.before.before.run-end16.ensures, omega (arith, a.after, a.within)))
-    (λ c. let k = c.before.before.before.before.before.before in omega (arith, ends _ _ k.before.loop-test.true k.run-end16.ensures))
+    (missing-fits _ _ _ _ _ g.0 g.1 k.loop-i.invariant k.loop-i-test.true c.position16-first.ensures c.run_end16-j.ensures, omega (arith, a.after, a.within)))
+    (λ c. let k = c.before.before.before.before.before.before in omega (arith, ends _ _ k.loop-i-test.true k.run_end16-j.ensures))
     (λ c. omega (arith, (front c.before.before.before.before).within))
     (λ c. omega (arith, (front c.before.before.before.before).within))
-    (λ c. let k = c.before.before.before.before.before.before in omega (arith, ends _ _ k.before.loop-test.true k.run-end16.ensures))
+    (λ c. let k = c.before.before.before.before.before.before in omega (arith, ends _ _ k.loop-i-test.true k.run_end16-j.ensures))
     (λ c.
     let k = c.before.before.before.before.before.before in
-    let g = k.before.before.before.before.before.requires in
-    missing-next _ _ _ _ _ g.0 g.1 k.before.before.loop.invariant k.before.loop-test.true c.before.before.before.before.position16.ensures k.run-end16.ensures c.before.before.list-run.ensures refl)
-    (λ c. c.before.before.loop.invariant.inside)
+    let g = k.requires in
+    missing-next _ _ _ _ _ g.0 g.1 k.loop-i.invariant k.loop-i-test.true c.position16-first.ensures k.run_end16-j.ensures c.list_run-p.ensures refl)
+    (λ c. c.loop-i.invariant.inside)
     (λ c κs.
-    let g = c.before.before.before.before.before.requires in
-    (missing_last _ _ _ _ _ g.0 g.1 c.before.before.loop.invariant c.before.loop-test.false, omega (arith, c.before.before.loop.invariant.inside)))
-    (λ c. written-length c.before.before.list-run2.ensures ∙ emitting_length c.before.before.before.before.before.loop.invariant.so)
+    let g = c.requires in
+    (missing_last _ _ _ _ _ g.0 g.1 c.loop-i.invariant c.loop-i-test.false, omega (arith, c.loop-i.invariant.inside)))
+    (λ c. written-length c.list_run.ensures ∙ emitting_length c.loop-i.invariant.so)
     (λ c.
     let k = c.before.before.before.before in
-    let g = k.before.before.before.before.requires in
-    missing-done _ _ _ _ _ g.0 g.1 k.before.loop.invariant k.loop-test.false c.before.before.list-run2.ensures))
+    let g = k.requires in
+    missing-done _ _ _ _ _ g.0 g.1 k.loop-i.invariant k.loop-i-test.false c.list_run.ensures))

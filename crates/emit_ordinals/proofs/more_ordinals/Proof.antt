@@ -10,6 +10,6 @@ more_ordinals_spec =
     tie.close
     (tie.spec
     (λ c κs. search rules)
-    (λ c. let o = c.before.before.before.single-ordinals.ensures in onward_upto o (λ h. o.out c.if1.true))
+    (λ c. let o = c.single_ordinals-single.ensures in onward_upto o (λ h. o.out c.if-single-ahead.true))
     (λ c κs. search rules)
-    (λ c. onward_then c.before.before.before.before.single-ordinals.ensures c.run-ordinals.ensures))
+    (λ c. onward_then c.single_ordinals-single.ensures c.run_ordinals.ensures))

@@ -14,5 +14,5 @@ reaches16_spec =
     (λ c. search rules)
     (λ c. search rules)
     (λ c κs. search rules)
-    (λ c e. (omega (arith, c.before.if1.true), c.unbroken16.ensures e))
+    (λ c e. (omega (arith, c.if-from-step.true), c.unbroken16.ensures e))
     (λ c e. never e refl))

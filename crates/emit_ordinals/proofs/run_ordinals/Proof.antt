@@ -11,24 +11,24 @@ use Rattle.emit_ordinals.proofs.run_ordinals.Statement.{statement}
 use Rattle.emit_ordinals.proofs.run_ordinals.Tie as tie
 
 -- the rows that go in
-part : (c : tie.After-least) → let s = c.before.before.before.before.before.before.before.before.before in Part s.args.ahead.stop s.args.word.next c.before.before.before.before.position16.result c.least.result
+part : (c : tie.After-least) → let s = c.before.before.before.before.before.before.before.before.before in Part s.args.ahead.stop s.args.word.next c.position16-q.result c.least.result
 part c = record { some = omega (arith, c.least.ensures); fits = omega (arith, c.least.ensures); inside = omega (arith, c.least.ensures); full = λ h. omega (arith, c.least.ensures) }
 
 pub run_ordinals_spec : {M : Type 1} → statement M
 run_ordinals_spec =
     tie.close
     (tie.spec
-    (λ c. onward_upto (onward_start c.before.before.before.requires.3) (λ h. absurd (omega arith)))
+    (λ c. onward_upto (onward_start c.requires.3) (λ h. absurd (omega arith)))
     (λ c. search rules)
     (λ c. search rules)
-    (λ c κs. (row_at c.before.before.before.before.requires.0 _ (omega arith)).0)
+    (λ c κs. (row_at c.requires.0 _ (omega arith)).0)
     (λ c κs. search rules)
-    (λ c. let s = c.before.before.before.before.before.before.before in onward_upto (onward_start s.requires.3) (λ h. row_out _ _ (omega arith) _ c.before.before.position16.ensures (sym c.before.in-word.ensures ∙ not-true _ c.if2.true)))
+    (λ c. let s = c.before.before.before.before.before.before.before in onward_upto (onward_start s.requires.3) (λ h. row_out _ _ (omega arith) _ c.position16-q.ensures (sym c.in_word.ensures ∙ c.if-not-in_word.true)))
     (λ c. search rules)
     (λ c. search rules)
     (λ c. search rules)
     (λ c κs. search rules)
-    (λ c κs. let p = part c in (p.some, p.fits, omega (arith, (spaced c.before.before.before.before.before.before.before.before.before.requires.0).few)))
+    (λ c κs. let p = part c in (p.some, p.fits, omega (arith, (spaced c.requires.0).few)))
     (λ c.
     let s = c.before.before.before.before.before.before.before.before.before.before in
-    onward_run s.requires.0 s.requires.1 _ s.requires.2 (omega arith) c.before.before.before.before.before.position16.ensures (part c.before) (sym c.before.before.before.before.in-word.ensures ∙ not-false _ c.before.before.before.if2.false) c.with-run.ensures))
+    onward_run s.requires.0 s.requires.1 _ s.requires.2 (omega arith) c.position16-q.ensures (part c.before) (sym c.in_word.ensures ∙ c.if-not-in_word.false) c.with_run.ensures))

@@ -12,36 +12,36 @@ use Rattle.emit.proofs.Loops.{row_at, ends, runs-fits, runs-next, runs_done}
 use Rattle.emit_ordinals.proofs.runs_ordinals.Statement.{statement}
 use Rattle.emit_ordinals.proofs.runs_ordinals.Tie as tie
 
-abbrev invariant-loop : tie.invariant-loop
-invariant-loop out₀ at ordinals base wide p₀ i₀ out p i = Passing (runs_form (width_of wide)) base 4294967295 ordinals out₀ at p i out
+abbrev invariant-loop-i : tie.invariant-loop-i
+invariant-loop-i out₀ at ordinals base wide p₀ i₀ out p i = Passing (runs_form (width_of wide)) base 4294967295 ordinals out₀ at p i out
 
-abbrev decreases-loop : tie.decreases-loop
-decreases-loop out₀ at ordinals base wide p₀ i₀ out p i = length ordinals - i
+abbrev decreases-loop-i : tie.decreases-loop-i
+decreases-loop-i out₀ at ordinals base wide p₀ i₀ out p i = length ordinals - i
 
 pub runs_ordinals_spec : {M : Type 1} → statement M
 runs_ordinals_spec =
     tie.close
     (tie.spec
-    invariant-loop
-    decreases-loop
-    (λ c. pass_start _ _ _ _ _ _ c.before.before.requires.0)
+    invariant-loop-i
+    decreases-loop-i
+    (λ c. pass_start _ _ _ _ _ _ c.requires.0)
     (λ c κs. search rules)
     (λ c. search rules)
     (λ c. search rules)
-    (λ c κs. (row_at c.before.before.before.before.before.before.before.requires.0 _ c.before.before.before.loop-test.true).0)
-    (λ c. let k = c.before.before.before.before in omega (arith, ends _ _ k.loop-test.true c.before.before.before.run-end16.ensures))
-    (λ c. let k = c.before.before.before.before in omega (arith, ends _ _ k.loop-test.true c.before.before.before.run-end16.ensures))
+    (λ c κs. (row_at c.requires.0 _ c.loop-i-test.true).0)
+    (λ c. let k = c.before.before.before.before in omega (arith, ends _ _ k.loop-i-test.true c.run_end16-j.ensures))
+    (λ c. let k = c.before.before.before.before in omega (arith, ends _ _ k.loop-i-test.true c.run_end16-j.ensures))
     (λ c. omega arith)
     (λ c κs.
     let k = c.before.before.before.before in
-    let g = k.before.before.before.before.requires in
-    runs-fits _ _ _ _ _ g.0 k.before.loop.invariant k.loop-test.true c.position16.ensures c.before.before.before.run-end16.ensures g.2)
+    let g = k.requires in
+    runs-fits _ _ _ _ _ g.0 k.loop-i.invariant k.loop-i-test.true c.position16.ensures c.run_end16-j.ensures g.2)
     (λ c.
     let k = c.before.before.before.before.before.before in
-    omega (arith, ends _ _ k.before.loop-test.true k.run-end16.ensures))
+    omega (arith, ends _ _ k.loop-i-test.true k.run_end16-j.ensures))
     (λ c.
     let k = c.before.before.before.before.before.before in
-    let g = k.before.before.before.before.before.requires in
-    runs-next _ _ _ _ _ g.0 k.before.before.loop.invariant k.before.loop-test.true c.before.before.before.position16.ensures k.run-end16.ensures c.before.before.run-entry.ensures)
-    (λ c. emitting_length c.before.loop.invariant.so.so)
-    (λ c. runs_done _ _ _ _ _ c.before.before.before.before.requires.0 c.before.loop.invariant c.loop-test.false))
+    let g = k.requires in
+    runs-next _ _ _ _ _ g.0 k.loop-i.invariant k.loop-i-test.true c.position16.ensures k.run_end16-j.ensures c.run_entry-p.ensures)
+    (λ c. emitting_length c.loop-i.invariant.so.so)
+    (λ c. runs_done _ _ _ _ _ c.requires.0 c.loop-i.invariant c.loop-i-test.false))

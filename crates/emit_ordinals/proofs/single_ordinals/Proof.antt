@@ -14,31 +14,31 @@ use Rattle.emit.proofs.Looking.{onward_start, onward_next, onward_upto}
 use Rattle.emit_ordinals.proofs.single_ordinals.Statement.{statement}
 use Rattle.emit_ordinals.proofs.single_ordinals.Tie as tie
 
-abbrev invariant-loop : tie.invariant-loop
-invariant-loop ordinals ahead base k bits₀ j₀ bits j = Onward (positions_of base ordinals) k 0 ahead.stop (record { bits = bits₀; next = j₀ }) (record { bits = bits; next = j })
+abbrev invariant-loop-j : tie.invariant-loop-j
+invariant-loop-j ordinals ahead base k bits₀ j₀ bits j = Onward (positions_of base ordinals) k 0 ahead.stop (record { bits = bits₀; next = j₀ }) (record { bits = bits; next = j })
 
-abbrev decreases-loop : tie.decreases-loop
-decreases-loop ordinals ahead base k bits₀ j₀ bits j = length ordinals - j
+abbrev decreases-loop-j : tie.decreases-loop-j
+decreases-loop-j ordinals ahead base k bits₀ j₀ bits j = length ordinals - j
 
 pub single_ordinals_spec : {M : Type 1} → statement M
 single_ordinals_spec =
     tie.close
     (tie.spec
-    invariant-loop
-    decreases-loop
-    (λ c. onward_start c.before.requires.2)
+    invariant-loop-j
+    decreases-loop-j
+    (λ c. onward_start c.requires.2)
     (λ c. omega arith)
     (λ c. omega arith)
-    (λ c κs. (row_at c.before.before.before.before.before.requires.0 _ (omega arith)).0)
+    (λ c κs. (row_at c.requires.0 _ (omega arith)).0)
     (λ c κs. search rules)
     (λ c.
     let k = c.before.before.before.before in
-    onward_upto k.before.before.loop.invariant (λ h. row_out _ _ (omega arith) _ c.before.before.position16.ensures (sym c.before.in-word.ensures ∙ not-true _ c.if2.true)))
+    onward_upto k.loop-j.invariant (λ h. row_out _ _ (omega arith) _ c.position16-q.ensures (sym c.in_word.ensures ∙ c.if-not-in_word.true)))
     (λ c κs. search rules)
     (λ c. omega arith)
     (λ c. omega arith)
     (λ c.
     let k = c.before.before.before.before.before in
-    let p = k.before.before.before.before.requires in
-    onward_next k.before.before.loop.invariant (positions_below _ _ p.0) (row_stands _ _ (omega arith) c.before.before.before.position16.ensures) (sym c.before.before.in-word.ensures ∙ not-false _ c.before.if2.false) c.with-digit.ensures (omega arith))
-    (λ c. onward_upto c.before.before.loop.invariant (λ h. absurd (omega arith))))
+    let p = k.requires in
+    onward_next k.loop-j.invariant (positions_below _ _ p.0) (row_stands _ _ (omega arith) c.position16-q.ensures) (sym c.in_word.ensures ∙ c.if-not-in_word.false) c.with_digit-bits.ensures (omega arith))
+    (λ c. onward_upto c.loop-j.invariant (λ h. absurd (omega arith))))

@@ -17,21 +17,21 @@ gather_page_spec =
     (tie.spec
     (λ c κs. search rules)
     (λ c.
-    let z = c.before.before.if1.true in
-    (rw (empty_answer _ _ z _, ← c.before.impossible.ensures, c.if2.true), sym (empty_table _ _ z _)))
+    let z = c.if-rows-eq0.true in
+    (rw (empty_answer _ _ z _, ← c.impossible.ensures, c.if-impossible.true), sym (empty_table _ _ z _)))
     (λ c.
-    let z = c.before.before.if1.true in
-    (rw (empty_answer _ _ z _, ← c.before.impossible.ensures, c.if2.false), sym (empty_table _ _ z _)))
+    let z = c.if-rows-eq0.true in
+    (rw (empty_answer _ _ z _, ← c.impossible.ensures, c.if-impossible.false), sym (empty_table _ _ z _)))
     (λ c κs. search rules)
     (λ c.
-    let n = c.before.before.if1.false in
-    let e = c.before.some_number_lem.ensures in
-    (rw (some_answer _ _ n _, ← e) (sym (answered_no _ _ c.if3.true)), rw (some_table _ _ n _, ← e) (sym (kept_old _ _ _ c.if3.true))))
-    (λ c κs. page_admitted _ _ c.before.before.before.if1.false _ (sym c.before.before.some_number_lem.ensures ∙ c.before.if3.false))
+    let n = c.if-rows-eq0.false in
+    let e = c.some_number-k.ensures in
+    (rw (some_answer _ _ n _, ← e) (sym (answered_no _ _ c.if-k-ne0.true)), rw (some_table _ _ n _, ← e) (sym (kept_old _ _ _ c.if-k-ne0.true))))
+    (λ c κs. page_admitted _ _ c.if-rows-eq0.false _ (sym c.some_number-k.ensures ∙ c.if-k-ne0.false))
     (λ c. search rules)
     (λ c.
     let d = c.before.before.before.before in
-    let n = d.before.before.if1.false in
-    let e = d.before.some_number_lem.ensures in
-    let w = c.before.before.put-page.ensures in
-    (rw (some_answer _ _ n _, ← e, w.0) (sym (answered_yes _ _ d.if3.false)), rw (some_table _ _ n _, ← e, w.1) (sym (kept_new _ _ _ d.if3.false)))))
+    let n = d.if-rows-eq0.false in
+    let e = d.some_number-k.ensures in
+    let w = c.put_page.ensures in
+    (rw (some_answer _ _ n _, ← e, w.0) (sym (answered_yes _ _ d.if-k-ne0.false)), rw (some_table _ _ n _, ← e, w.1) (sym (kept_new _ _ _ d.if-k-ne0.false)))))

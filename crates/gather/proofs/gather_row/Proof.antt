@@ -14,10 +14,10 @@ gather_row_spec =
     tie.close
     (tie.spec
     (λ c κs. search rules)
-    (λ c. rw (← c.before.row_number.ensures) (sym (answered_no _ _ c.if1.true), sym (kept_old _ _ _ c.if1.true)))
-    (λ c κs. row_admitted _ _ _ (sym c.before.before.row_number.ensures ∙ c.before.if1.false))
+    (λ c. rw (← c.row_number-k.ensures) (sym (answered_no _ _ c.if-k-ne0.true), sym (kept_old _ _ _ c.if-k-ne0.true)))
+    (λ c κs. row_admitted _ _ _ (sym c.row_number-k.ensures ∙ c.if-k-ne0.false))
     (λ c. search rules)
     (λ c.
     let d = c.before.before.before.before in
-    let w = c.before.before.put-row.ensures in
-    rw (← d.before.row_number.ensures, w.0, w.1) (sym (answered_yes _ _ d.if1.false), sym (kept_new _ _ _ d.if1.false))))
+    let w = c.put_row.ensures in
+    rw (← d.row_number-k.ensures, w.0, w.1) (sym (answered_yes _ _ d.if-k-ne0.false), sym (kept_new _ _ _ d.if-k-ne0.false))))

@@ -12,11 +12,11 @@ admitted_spec =
     tie.close
     (tie.spec
     (λ c κs. search rules)
-    (λ c. (join_sound _ _ _ c.before.join.ensures c.before.before.requires).ordered)
-    (λ c. sym (admits_long _ _ (rw (← c.before.before.join.ensures) (omega arith))))
-    (λ c κs. join_sound _ _ _ c.before.before.join.ensures c.before.before.before.requires)
+    (λ c. (join_sound _ _ _ c.join-whole.ensures c.requires).ordered)
+    (λ c. sym (admits_long _ _ (rw (← c.join-whole.ensures) (omega arith))))
+    (λ c κs. join_sound _ _ _ c.join-whole.ensures c.requires)
     (λ c κs. search rules)
     (λ c. search rules)
     (λ c κs. search rules)
     (λ c. search rules)
-    (λ c. let j = c.before.before.before.before.before in rw (c.before.before.payload.ensures.0, c.before.payload2.ensures.0, c.payload3.ensures.0, j.join.ensures) (admits_by _ _ (rw (← j.join.ensures) (omega arith)))))
+    (λ c. let j = c.before.before.before.before.before in rw (c.payload.ensures.0, c.payload-2.ensures.0, c.payload-3.ensures.0, j.join-whole.ensures) (admits_by _ _ (rw (← j.join-whole.ensures) (omega arith)))))

@@ -28,6 +28,6 @@ clear_spec =
     let given = call.before.before.before in
     let e = given.args.n * 24 in
     let w = given.args.w.now in
-    let front : call.wipe.new.0 ≡ replicate e 0 = call.wipe.ensures ∙ ap (λ (k : ℕ). replicate k 0) (mid_len 0 e w given.requires ∙ sub-zero e) in
+    let front : call.wipe.new.a ≡ replicate e 0 = call.wipe.ensures ∙ ap (λ (k : ℕ). replicate k 0) (mid_len 0 e w given.requires ∙ sub-zero e) in
     let rest : post_of 0 (e - 0) w ≡ drop e w = Post-is 0 e w (omega arith) in
     (λ i. front i ++ rest i) ∙ ap (λ (k : ℕ). replicate e 0 ++ drop k w) (sym (length-replicate e 0))))

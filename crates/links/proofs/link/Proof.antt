@@ -17,4 +17,4 @@ link_spec =
     (λ c κs. search rules)
     (λ c κs. search rules)
     (λ c. search rules)
-    (λ c. rw (c.before.before.put-segment.ensures, c.before.before.before.before.before.before.put3.ensures, c.before.before.before.before.before.before.before.before.before.before.put2.ensures, c.before.before.before.before.before.before.before.before.before.before.before.before.before.before.put.ensures)))
+    (λ c. rw (c.put_segment.ensures, c.put-3.ensures, c.put-2.ensures, c.put.ensures)))

@@ -13,4 +13,4 @@ live_spec =
     (tie.spec
     (λ c κs. search rules)
     (λ c κs. search rules)
-    (λ c. rw (c.before.cell.ensures.0, c.cell2.ensures.0) (and_both _ _)))
+    (λ c. rw (c.cell-a.ensures.0, c.cell-b.ensures.0) (and_both _ _)))

@@ -20,9 +20,9 @@ saving_spec =
     (λ c κs. search rules)
     (λ c. search rules)
     (λ c κs. search rules)
-    (λ c κs. join_sound _ _ _ c.join.ensures c.before.before.before.requires.0)
-    (λ c. omega (arith, c.payload3.ensures.0, ap payload c.before.join.ensures, admits_pays c.before.before.before.before.args.a c.before.before.before.before.args.b c.before.before.before.before.requires.1))
+    (λ c κs. join_sound _ _ _ c.join.ensures c.requires.0)
+    (λ c. omega (arith, c.payload-3.ensures.0, ap payload c.join.ensures, admits_pays c.args.a c.args.b c.requires.1))
     (λ c. let at = c.before.before.before.before in
-    let e : 16 + c.before.before.before.payload.result + c.before.before.payload2.result - c.payload3.result ≡ saves at.args.a at.args.b
-    = rw (c.before.before.before.payload.ensures.0, c.before.before.payload2.ensures.0, c.payload3.ensures.0, c.before.join.ensures) in
+    let e : 16 + c.payload.result + c.payload-2.result - c.payload-3.result ≡ saves at.args.a at.args.b
+    = rw (c.payload.ensures.0, c.payload-2.ensures.0, c.payload-3.ensures.0, c.join.ensures) in
     (e, omega (arith, saves-small at.args.a at.args.b at.requires.0 at.requires.1))))

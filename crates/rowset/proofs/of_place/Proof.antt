@@ -14,5 +14,5 @@ of_place_spec =
     tie.close
     (tie.spec
     (λ c. search rules)
-    (λ c. ap accepted (sym (pick_true _ _ c.before.if1.true)))
-    (λ c. ap accepted (sym (pick_false _ _ c.if1.false))))
+    (λ c. ap accepted (sym (pick_true _ _ c.if-q.true)))
+    (λ c. ap accepted (sym (pick_false _ _ c.if-q.false))))

@@ -9,4 +9,4 @@ use Rattle.cost.proofs.choice.bitmap.Tie as tie
 pub bitmap_spec : {M : Type 1} → statement M
 unfolding bitmap_form
 bitmap_spec =
-    tie.close (tie.spec (λ c. search rules) (λ c κs. search rules) (λ c. omega arith) (λ c. search rules) (λ c κs. search rules) (λ c. rw (c.before.bitmap-length.ensures, c.depth.ensures)))
+    tie.close (tie.spec (λ c. search rules) (λ c κs. search rules) (λ c. omega arith) (λ c. search rules) (λ c κs. search rules) (λ c. rw (c.bitmap_length.ensures, c.depth.ensures)))

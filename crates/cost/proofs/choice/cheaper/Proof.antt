@@ -12,5 +12,5 @@ cheaper_spec =
     tie.close
     (tie.spec
     (λ c κs. search rules)
-    (λ c. rw (← c.before.costs-less.ensures, c.if1.true))
-    (λ c. rw (← c.before.costs-less.ensures, c.if1.false)))
+    (λ c. rw (← c.costs_less.ensures, c.if-costs_less.true))
+    (λ c. rw (← c.costs_less.ensures, c.if-costs_less.false)))

@@ -8,4 +8,4 @@ use Rattle.cost.proofs.choice.consider.Tie as tie
 pub consider_spec : {M : Type 1} → statement M
 unfolding pick
 consider_spec =
-    tie.close (tie.spec (λ c κs. search rules) (λ c. rw c.before.if1.true c.cheaper.ensures) (λ c. rw c.if1.false))
+    tie.close (tie.spec (λ c κs. search rules) (λ c. rw c.if-allowed.true c.cheaper.ensures) (λ c. rw c.if-allowed.false))

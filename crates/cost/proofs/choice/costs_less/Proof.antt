@@ -12,24 +12,24 @@ unfolding key_of
 costs_less_spec =
     tie.close
     (tie.spec
-    (λ c. sym (lex_differ _ _ _ _ c.before.before.if1.true))
-    (λ c. let d = c.before.before in sym (lex-same _ _ _ _ d.before.before.before.if1.false ∙ lex_differ _ _ _ _ d.if2.true))
+    (λ c. sym (lex_differ _ _ _ _ c.if-f-g.true))
+    (λ c. let d = c.before.before in sym (lex-same _ _ _ _ d.if-f-g.false ∙ lex_differ _ _ _ _ d.if-f-g-2.true))
     (λ c.
     let d = c.before.before in
     let e = d.before.before.before in
-    sym (lex-same _ _ _ _ e.before.before.before.if1.false ∙ lex-same _ _ _ _ e.if2.false ∙ lex_differ _ _ _ _ d.if3.true))
+    sym (lex-same _ _ _ _ e.if-f-g.false ∙ lex-same _ _ _ _ e.if-f-g-2.false ∙ lex_differ _ _ _ _ d.if-f-g-3.true))
     (λ c κs. search rules)
     (λ c κs. search rules)
     (λ c.
     let d = c.before.before.before in
     let e = d.before.before.before in
-    rw (c.before.before.order.ensures, c.before.order2.ensures)
-    (sym (lex-same _ _ _ _ e.before.before.before.if1.false ∙ lex-same _ _ _ _ e.if2.false ∙ lex-same _ _ _ _ d.if3.false ∙ lex_differ _ _ _ _ (λ z. c.if4.true (c.before.before.order.ensures ∙ z ∙ sym c.before.order2.ensures)))))
+    rw (c.order-a.ensures, c.order-b.ensures)
+    (sym (lex-same _ _ _ _ e.if-f-g.false ∙ lex-same _ _ _ _ e.if-f-g-2.false ∙ lex-same _ _ _ _ d.if-f-g-3.false ∙ lex_differ _ _ _ _ (λ z. c.if-a-b.true (c.order-a.ensures ∙ z ∙ sym c.order-b.ensures)))))
     (λ c κs. search rules)
     (λ c κs. search rules)
     (λ c.
     let m = c.before.before.before in
     let d = m.before.before in
     let e = d.before.before.before in
-    rw (c.before.one-if.ensures.0, c.one-if2.ensures.0)
-    (sym (lex-same _ _ _ _ e.before.before.before.if1.false ∙ lex-same _ _ _ _ e.if2.false ∙ lex-same _ _ _ _ d.if3.false ∙ lex-same _ _ _ _ (sym m.before.order.ensures ∙ c.before.before.if4.false ∙ m.order2.ensures) ∙ lex-one _ _))))
+    rw (c.one_if.ensures.0, c.one_if-2.ensures.0)
+    (sym (lex-same _ _ _ _ e.if-f-g.false ∙ lex-same _ _ _ _ e.if-f-g-2.false ∙ lex-same _ _ _ _ d.if-f-g-3.false ∙ lex-same _ _ _ _ (sym m.order-a.ensures ∙ c.if-a-b.false ∙ m.order-b.ensures) ∙ lex-one _ _))))

@@ -11,9 +11,9 @@ unfolding order_of pick
 order_spec =
     tie.close
     (tie.spec
-    (λ c. rw (le-leb _ _ c.if1.true))
-    (λ c. rw (lt-leb _ _ c.before.if1.false, le-leb _ _ c.if2.true))
-    (λ c. rw (lt-leb _ _ c.before.before.if1.false, lt-leb _ _ c.before.if2.false, le-leb _ _ c.if3.true))
-    (λ c. rw (lt-leb _ _ c.before.before.before.if1.false, lt-leb _ _ c.before.before.if2.false, lt-leb _ _ c.before.if3.false, le-leb _ _ c.if4.true))
-    (λ c. rw (lt-leb _ _ c.before.before.before.before.if1.false, lt-leb _ _ c.before.before.before.if2.false, lt-leb _ _ c.before.before.if3.false, lt-leb _ _ c.before.if4.false, le-leb _ _ c.if5.true))
-    (λ c. rw (lt-leb _ _ c.before.before.before.before.if1.false, lt-leb _ _ c.before.before.before.if2.false, lt-leb _ _ c.before.before.if3.false, lt-leb _ _ c.before.if4.false, lt-leb _ _ c.if5.false)))
+    (λ c. rw (le-leb _ _ c.if-tag-le1.true))
+    (λ c. rw (lt-leb _ _ c.if-tag-le1.false, le-leb _ _ c.if-tag-le3.true))
+    (λ c. rw (lt-leb _ _ c.if-tag-le1.false, lt-leb _ _ c.if-tag-le3.false, le-leb _ _ c.if-tag-le5.true))
+    (λ c. rw (lt-leb _ _ c.if-tag-le1.false, lt-leb _ _ c.if-tag-le3.false, lt-leb _ _ c.if-tag-le5.false, le-leb _ _ c.if-tag-le6.true))
+    (λ c. rw (lt-leb _ _ c.if-tag-le1.false, lt-leb _ _ c.if-tag-le3.false, lt-leb _ _ c.if-tag-le5.false, lt-leb _ _ c.if-tag-le6.false, le-leb _ _ c.if-tag-le8.true))
+    (λ c. rw (lt-leb _ _ c.if-tag-le1.false, lt-leb _ _ c.if-tag-le3.false, lt-leb _ _ c.if-tag-le5.false, lt-leb _ _ c.if-tag-le6.false, lt-leb _ _ c.if-tag-le8.false)))

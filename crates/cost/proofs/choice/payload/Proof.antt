@@ -24,5 +24,5 @@ payload_spec =
     (λ c κs. search rules)
     (λ c κs. search rules)
     (λ c. let given = c.before.before.before.before.before.before.before in
-    let e : c.fewer3.result ≡ payload given.args.s = cc (payload-is given.args.s) in
+    let e : c.fewer-2.result ≡ payload given.args.s = cc (payload-is given.args.s) in
     (e, omega (arith, payload-most given.args.s))))

@@ -29,4 +29,4 @@ plain_form_spec =
     (λ c κs. search rules)
     (λ c κs. search rules)
     (λ c κs. search rules)
-    (λ c. rw (c.consider3.ensures, c.before.cheaper2.ensures, c.before.before.cheaper.ensures, c.before.before.before.whole-runs.ensures, c.before.before.before.before.before.consider2.ensures, c.before.before.before.before.before.before.items3.ensures, c.before.before.before.before.before.before.before.consider.ensures, c.before.before.before.before.before.before.before.before.dense.ensures, c.before.before.before.before.before.before.before.before.before.before.items2.ensures, c.before.before.before.before.before.before.before.before.before.before.before.before.bitmap.ensures, c.before.before.before.before.before.before.before.before.before.before.before.before.before.items.ensures)))
+    (λ c. rw (c.consider.ensures, c.cheaper.ensures, c.cheaper-d.ensures, c.whole_runs.ensures, c.consider-b.ensures, c.items-2.ensures, c.consider-a.ensures, c.dense.ensures, c.items.ensures, c.bitmap-bits.ensures, c.items-missing.ensures)))

@@ -21,4 +21,4 @@ whole_form_spec =
     (λ c κs. search rules)
     (λ c κs. search rules)
     (λ c κs. search rules)
-    (λ c. rw (c.consider.ensures, c.before.cheaper.ensures, c.before.before.bitmap.ensures, c.before.before.before.Plain-Form.ensures, c.before.before.before.before.items.ensures, c.before.before.before.before.before.before.local-span.ensures.0)))
+    (λ c. rw (c.consider.ensures, c.cheaper-bits.ensures, c.bitmap.ensures, c.before.before.before.plain_form.ensures, c.items-missing.ensures, c.local_span-local.ensures.0)))

@@ -17,5 +17,5 @@ whole_runs_spec =
     (λ c. search rules)
     (λ c. search rules)
     (λ c κs. search rules)
-    (λ c. rw c.before.if1.true c.items.ensures)
-    (λ c. rw c.before.if1.false c.items2.ensures))
+    (λ c. rw c.if-narrow.true c.items.ensures)
+    (λ c. rw c.if-narrow.false c.items-else-narrow.ensures))

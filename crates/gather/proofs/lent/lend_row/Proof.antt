@@ -11,4 +11,4 @@ use Rattle.gather.proofs.lent.lend_row.Code as code
 
 pub lend_row_spec : {M : Type 1} → stated.statement M
 unfolding code.routine
-lend_row_spec 𝓤 𝓛 𝓜 𝓡 = lends row 𝓛 𝓜 𝓡 add.name code.env key.name add.routine (code.unfolded 𝓤 𝓛.H 𝓜 𝓡) code.calls-gather::lent::add-row (thm.met 𝓤 𝓛 𝓜 𝓡)
+lend_row_spec 𝓤 𝓛 𝓜 𝓡 = lends row 𝓛 𝓜 𝓡 add.name code.env key.name add.routine (code.unfolded 𝓤 𝓛.h-1 𝓜 𝓡) code.calls-gather::lent::add-row (thm.met 𝓤 𝓛 𝓜 𝓡)

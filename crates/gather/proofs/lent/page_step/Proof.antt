@@ -13,13 +13,13 @@ page_step_spec =
     (tie.spec
     (λ c κs. search rules)
     (λ c κs.
-    let o = c.before.before.goes_in.ensures c.before.if1.true in
+    let o = c.goes_in.ensures c.if-goes_in.true in
     page_admitted _ _ (λ z. omega (arith, o.any)) _ o.number)
     (λ c κs. search rules)
     (λ c κs. search rules)
     (λ c. search rules)
     (λ c.
     let d = c.before.before.before.before in
-    apart (page_done _ _ _ (d.before.goes_in.ensures d.if1.true) _ _ c.before.before.put-page.ensures))
+    apart (page_done _ _ _ (d.goes_in.ensures d.if-goes_in.true) _ _ c.put_page.ensures))
     (λ c. search rules)
-    (λ c. rw (← c.before.before.before.before.before.copied.ensures) (apart c.before.before.before.tested-page.ensures)))
+    (λ c. rw (← c.copied.ensures) (apart c.tested_page-s.ensures)))

@@ -9,13 +9,13 @@ use Rattle.gather.proofs.Taken.{apart, together, row_done, row_refused}
 use Rattle.gather.proofs.lent.row_step.Statement.{statement}
 use Rattle.gather.proofs.lent.row_step.Tie as tie
 
-on : (c : tie.After-put-on-arg) → let s = c.before.before.before.before.before in Goes true s.args.g (length s.args.table.now) s.args.row
+on : (c : tie.After-put_on-arg-1) → let s = c.before.before.before.before.before in Goes true s.args.g (length s.args.table.now) s.args.row
 unfolding Leads
-on c = rw c.before.enum_told.given.1 at c.before.before.before.row-way.ensures
+on c = rw c.enum_told-1.given.1 at c.row_way.ensures
 
-anew : (c : tie.After-put-anew-arg) → let s = c.before.before.before.before.before in Goes false s.args.g (length s.args.table.now) s.args.row
+anew : (c : tie.After-put_anew-arg-1) → let s = c.before.before.before.before.before in Goes false s.args.g (length s.args.table.now) s.args.row
 unfolding Leads
-anew c = rw c.before.enum-told2.given.1 at c.before.before.before.row-way.ensures
+anew c = rw c.enum_told-in-Anew-1.given.1 at c.row_way.ensures
 
 pub row_step_spec : {M : Type 1} → statement M
 unfolding Leads
@@ -31,11 +31,11 @@ row_step_spec =
     (λ c. search rules)
     (λ c.
     let o = on c.before.before.before in
-    let e = c.before.before.put_on.ensures in
-    let w = row_done _ _ _ o.number _ _ e in
+    let e = c.put_on.ensures in
+    let w = row_done _ _ _ o.number-1 _ _ e in
     (w.0, ((w.1.0, λ _. together _ _ _ o _ e.0), w.1.1)))
     (λ c. search rules)
-    (λ c. apart (row_done _ _ _ (anew c.before.before.before).number _ _ c.before.before.put-anew.ensures))
+    (λ c. apart (row_done _ _ _ (anew c.before.before.before).number _ _ c.put_anew.ensures))
     (λ c.
-    let r = rw c.before.number.given.1 at c.before.before.before.row-way.ensures in
+    let r = rw c.number-1.given.1 at c.row_way.ensures in
     apart (row_refused _ _ _ _ r.0 r.1)))

@@ -17,5 +17,5 @@ tested_page_spec =
     (λ c κs. search rules)
     (λ c. search rules)
     (λ c.
-    let k = c.before.before.before.gather-page.ensures in
-    rw c.taken-apart.ensures (taken_answer _ _ ∙ k.0, (taken_record _ _ _ _ k.0, k.1))))
+    let k = c.gather_page.ensures in
+    rw c.taken_apart.ensures (taken_answer _ _ ∙ k.0, (taken_record _ _ _ _ k.0, k.1))))

@@ -17,5 +17,5 @@ tested_row_spec =
     (λ c κs. search rules)
     (λ c. search rules)
     (λ c.
-    let k = c.before.before.before.gather-row.ensures in
-    rw c.taken-apart.ensures (taken_answer _ _ ∙ k.0, (taken_record _ _ _ _ k.0, k.1))))
+    let k = c.gather_row.ensures in
+    rw c.taken_apart.ensures (taken_answer _ _ ∙ k.0, (taken_record _ _ _ _ k.0, k.1))))

@@ -12,17 +12,17 @@ pub follows_spec : {M : Type 1} → statement M
 follows_spec =
     tie.close
     (tie.spec
-    (λ c. ((λ e. absurd (false≢true e)), (λ e f. omega (arith, f.some, c.if1.true))))
-    (λ c. ((λ e. absurd (false≢true e)), (λ e f. omega (arith, (followed _ _ _ f).able.in_room, c.if2.true))))
-    (λ c. ((λ e. absurd (false≢true e)), (λ e f. omega (arith, (followed _ _ _ f).able.in_rows, c.if3.true))))
-    (λ c. ((λ e. absurd (false≢true e)), (λ e f. omega (arith, (followed _ _ _ f).counted.few, c.if4.true))))
-    (λ c. ((λ e. absurd (false≢true e)), (λ e f. omega (arith, followed_order _ _ _ f, c.if5.true))))
+    (λ c. ((λ e. absurd (false≢true e)), (λ e f. omega (arith, f.some, c.if-g-eq0.true))))
+    (λ c. ((λ e. absurd (false≢true e)), (λ e f. omega (arith, (followed _ _ _ f).able.in_room, c.if-room-g.true))))
+    (λ c. ((λ e. absurd (false≢true e)), (λ e f. omega (arith, (followed _ _ _ f).able.in_rows, c.if-g.true))))
+    (λ c. ((λ e. absurd (false≢true e)), (λ e f. omega (arith, (followed _ _ _ f).counted.few, c.if-g-gt65534.true))))
+    (λ c. ((λ e. absurd (false≢true e)), (λ e f. omega (arith, followed_order _ _ _ f, c.if-g-2.true))))
     (λ c.
     let c5 = c.before in
     let c4 = c5.before.before in
     let c3 = c4.before.before in
     let c2 = c3.before.before in
     let c1 = c2.before.before in
-    let a = c1.before.before.args in
-    let some : 1 ≤ a.g.entries = omega (arith, c1.if1.false) in
-    ((λ e. follows _ _ _ (record { in_room = c2.if2.false; in_rows = c3.if3.false; some = λ n. some; ordered = λ n. c5.if5.false }) some (omega (arith, c4.if4.false)) (ltb-true _ _ e)), (λ e f. omega (arith, followed_above _ _ _ f, ltb-false a.g.last a.row e)))))
+    let a = c1.args in
+    let some : 1 ≤ a.g.entries = omega (arith, c1.if-g-eq0.false) in
+    ((λ e. follows _ _ _ (record { in_room = c2.if-room-g.false; in_rows = c3.if-g.false; some = λ n. some; ordered = λ n. c5.if-g-2.false }) some (omega (arith, c4.if-g-gt65534.false)) (ltb-true _ _ e)), (λ e f. omega (arith, followed_above _ _ _ f, ltb-false a.g.last a.row e)))))

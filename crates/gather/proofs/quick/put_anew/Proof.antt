@@ -28,4 +28,4 @@ put_anew_spec =
     let s = c.before.before.before in
     let e = added_begins s.args.g s.args.row s.requires.in_seed in
     let back : s.args.g.entries + 1 - 1 ≡ s.args.g.entries = omega arith in
-    (sym e, rw (c.end_of_lem.ensures, e, back))))
+    (sym e, rw (c.end_of.ensures, e, back))))

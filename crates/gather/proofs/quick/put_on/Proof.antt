@@ -27,4 +27,4 @@ put_on_spec =
     (λ c.
     let s = c.before.before.before in
     let e = added-joins s.args.g s.args.row s.requires.in_seed in
-    (sym e, rw (c.end_of_lem.ensures, e))))
+    (sym e, rw (c.end_of.ensures, e))))

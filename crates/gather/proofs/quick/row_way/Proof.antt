@@ -10,21 +10,21 @@ use Rattle.gather_core.proofs.Admitted.{Begins, first_refuses, goes_on_lem, else
 use Rattle.gather.proofs.quick.row_way.Statement.{statement}
 use Rattle.gather.proofs.quick.row_way.Tie as tie
 
-behind : (c : tie.Then1) → let s = c.before.before in Follows s.args.g s.args.room s.args.row
-behind c = c.before.follows.ensures.0 c.if1.true
+behind : (c : tie.Then-follows) → let s = c.before.before in Follows s.args.g s.args.room s.args.row
+behind c = c.follows.ensures.0 c.if-follows.true
 
-refused : (c : tie.Then3) → let s = c.before.before.before.before in early s.args.g s.args.room (above s.args.g s.args.row) 1 ≡ 0 → ⊥
+refused : (c : tie.Then-g-ne0) → let s = c.before.before.before.before in early s.args.g s.args.room (above s.args.g s.args.row) 1 ≡ 0 → ⊥
 refused c =
     let d = c.before.before in
-    not_following _ _ _ c.if3.true (d.before.follows.ensures.1 d.if1.false)
+    not_following _ _ _ c.if-g-ne0.true (d.follows.ensures.1 d.if-follows.false)
 
 -- the two ways of a row that begins a seed
-begun : (c : tie.Joined1) → let s = c.before.before in Begins s.args.g s.args.room s.args.row
+begun : (c : tie.Joined-follows) → let s = c.before.before in Begins s.args.g s.args.room s.args.row
 begun c =
     ⊎_elim
     (λ p. elsewhere _ _ _ (behind (record { before = c.before; if1 = p.0 })) p.2.left)
     (λ p. first_row _ _ _ p.2.left p.4.left)
-    c.if1.branch
+    c.if-follows.branch
 
 pub row_way_spec : {M : Type 1} → statement M
 unfolding Leads row_number
@@ -32,13 +32,13 @@ row_way_spec =
     tie.close
     (tie.spec
     (λ c κs. search rules)
-    (λ c. goes_on_lem _ _ _ (behind c.before.before) (sym c.if2.true))
+    (λ c. goes_on_lem _ _ _ (behind c.before.before) (sym c.if-row-g.true))
     (λ c κs. search rules)
     (λ c κs. search rules)
     (λ c.
     let r = refused c.before.before in
-    let e = rw c.before.above.ensures at c.early.ensures in
+    let e = rw c.above.ensures at c.early.ensures in
     (first_refuses _ _ r ∙ sym e, λ z. r (sym e ∙ z)))
-    (λ c. (unmatched _ _ _ c.before.before.if3.false c.if4.true, λ z. omega arith))
-    (λ c. begins _ _ _ (begun c.before.before) c.if5.true)
-    (λ c. (no_room _ _ _ (begun c.before.before) c.if5.false, λ z. omega arith)))
+    (λ c. (unmatched _ _ _ c.if-g-ne0.false c.if-g-ne0-2.true, λ z. omega arith))
+    (λ c. begins _ _ _ (begun c.before.before) c.if-g-room.true)
+    (λ c. (no_room _ _ _ (begun c.before.before) c.if-g-room.false, λ z. omega arith)))
