@@ -21,4 +21,4 @@ rises_closely_spec =
     let s = d.before.before.before.before in
     let a = s.args in
     let n = behind-length a.first a.rows.now a.from in
-    rises-so d.before.steps.result d.if-steps-lt18446462598732840960.false (a.first ∷ drop a.from a.rows.now) (omega (arith, n, d.before.before.if-n-gt65535.false)) (rw n d.before.steps.ensures) (behind_last a.first a.rows.now a.from s.requires.0 (leb-true _ _ e))))
+    rises-so d.before.steps.result d.if-steps-lt18446462598732840960.false (a.first ∷ drop a.from a.rows.now) (omega (arith, n)) (rw n d.before.steps.ensures) (behind_last a.first a.rows.now a.from s.requires.0 (leb-true _ _ e))))
