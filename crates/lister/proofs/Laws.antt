@@ -103,9 +103,3 @@ pub record All (held size first room lo hi at k total : ℕ) : Type 0 where
   pub fits : at ≤ room
   pub same : room ≡ first
   pub line : 128 ≤ room
-
--- what a refill asks
-pub record Refillable (size lo hi : ℕ) : Type 0 where
-  pub ordered : lo ≤ hi
-  pub inside : hi ≤ size
-  pub room : hi - lo < size

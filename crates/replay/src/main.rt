@@ -7,7 +7,7 @@
 
 #![tactic(auto)]
 
-mod bodies;
+mod body_cases;
 mod counts;
 mod deletions;
 mod list;
@@ -39,7 +39,7 @@ fn run_case(kind: u8, b: &[u8]) -> u8 {
         return plans::run(b);
     }
     if kind == 2 {
-        return bodies::run(b);
+        return body_cases::run(b);
     }
     if kind == 3 {
         return deletions::run_planned(b);

@@ -7,18 +7,18 @@ use Rattle.lister.proofs.Laws.{Sliding, sliding_start, sliding_next, sliding_end
 use Rattle.lister.proofs.slide.Statement.{statement}
 use Rattle.lister.proofs.slide.Tie as tie
 
-abbrev invariant-loop : tie.invariant-loop
-invariant-loop buf₀ lo hi n i₀ buf i = Sliding buf₀ lo buf i
+abbrev invariant-loop-i : tie.invariant-loop-i
+invariant-loop-i buf₀ lo hi n i₀ buf i = Sliding buf₀ lo buf i
 
-abbrev decreases-loop : tie.decreases-loop
-decreases-loop buf₀ lo hi n i₀ buf i = n - i
+abbrev decreases-loop-i : tie.decreases-loop-i
+decreases-loop-i buf₀ lo hi n i₀ buf i = n - i
 
 pub slide_spec : {M : Type 1} → statement M
 slide_spec =
     tie.close
     (tie.spec
-    invariant-loop
-    decreases-loop
+    invariant-loop-i
+    decreases-loop-i
     (λ c. search rules)
     (λ c. sliding_start _ _)
     (λ c. search rules)
@@ -26,6 +26,6 @@ slide_spec =
     (λ c. search rules)
     (λ c. search rules)
     (λ c. search rules)
-    (λ c. sliding_next c.before.before.loop.invariant (omega arith))
+    (λ c. sliding_next c.loop-i.invariant (omega arith))
     (λ c. search rules)
-    (λ c. sliding_end c.before.loop.invariant c.loop-test.false))
+    (λ c. sliding_end c.loop-i.invariant c.loop-i-test.false))

@@ -1,6 +1,6 @@
--- `replay::bodies::same_ranks` is safe and ends.
+-- `replay::body_cases::same_words` is safe and ends.
 use Rattle.std.proofs.Common.{◌-◌, ◌≤◌}
-use Rattle.replay.proofs.bodies.same_ranks.Given as goal
+use Rattle.replay.proofs.body_cases.same_words.Given as goal
 
 abbrev pub invariant-loop-i : goal.invariant-loop-i
 invariant-loop-i l = l.i ≤ l.n
