@@ -9,11 +9,12 @@ SECONDS = 60
 SEED = 1
 
 all:
-	rt check
+	rt all check
 	@mkdir -p dist
-	rt staticlib pelisafu
-	cp target/staticlib/libpelisafu.a include/pelisafu.h dist/
-	cp target/bin/lister dist/lister
+	cd crates/pelisafu && rt lib --cpu x86-64
+	cd crates/lister && rt run < stdin | cmp - stdout
+	cp crates/pelisafu/out/libpelisafu.a include/pelisafu.h dist/
+	cp crates/lister/out/lister dist/lister
 	dist/lister < tests/listing/sample.bin
 
 test:
@@ -31,4 +32,4 @@ bench-docs:
 	differential/bench-into-docs
 
 clean:
-	rm -rf target dist differential/target fuzz/target rust/pelisafu/target
+	rm -rf crates/*/out dist differential/target fuzz/target rust/pelisafu/target

@@ -14,7 +14,7 @@ use std::process::{Command, Output, Stdio};
 use std::thread;
 
 /// Where the program is, from the folder that comparisons run in, unless `LISTER` names another one.
-const PROGRAM: &str = "../target/bin/lister";
+const PROGRAM: &str = "../crates/lister/out/lister";
 
 /// An input: a version byte or none, whole records, and bytes behind them.
 #[derive(Clone, Default)]
@@ -122,7 +122,7 @@ impl Tally {
 pub(crate) fn compare() -> Verdict {
     let program = env::var("LISTER").unwrap_or(PROGRAM.to_string());
     if !Path::new(&program).is_file() {
-        return Err(format!("there is no {program}; rt check lister makes it"));
+        return Err(format!("there is no {program}; make makes it"));
     }
     let mut tally = Tally::default();
     streams::for_each(&mut |stream: &Stream| {

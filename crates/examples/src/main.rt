@@ -8,14 +8,14 @@ mod gathering;
 mod plans;
 
 use directory::Segment;
-use libc::STDOUT_FILENO;
 use rowset::{Checked, Filled, Ranked, Selected};
+use std::io::Stdout;
 
 fn digit(n: u64) -> u8 {
     48 + (n % 10) as u8
 }
 
-fn say(n: u64) {
+fn say(stdout: Stdout, n: u64) {
     let text = [
         digit(n / 1000000000),
         digit(n / 100000000),
@@ -29,78 +29,82 @@ fn say(n: u64) {
         digit(n),
         b'\n',
     ];
-    io::write_all(STDOUT_FILENO, &text);
+    let _ = stdout.write_all(&text);
 }
 
-fn say32(n: u32) {
-    say(n as u64);
+fn say32(stdout: Stdout, n: u32) {
+    say(stdout, n as u64);
 }
 
-fn say16(n: u16) {
-    say(n as u64);
+fn say16(stdout: Stdout, n: u16) {
+    say(stdout, n as u64);
 }
 
-fn say_refused() {
-    io::write_all(
-        STDOUT_FILENO,
-        &[b'r', b'e', b'f', b'u', b's', b'e', b'd', b'\n'],
-    );
+fn say_refused(stdout: Stdout) {
+    let _ = stdout.write_all(&[b'r', b'e', b'f', b'u', b's', b'e', b'd', b'\n']);
 }
 
-fn say_nothing() {
-    io::write_all(
-        STDOUT_FILENO,
-        &[b'n', b'o', b't', b'h', b'i', b'n', b'g', b'\n'],
-    );
+fn say_nothing(stdout: Stdout) {
+    let _ = stdout.write_all(&[b'n', b'o', b't', b'h', b'i', b'n', b'g', b'\n']);
 }
 
-fn say_checked(c: Checked) {
+fn say_checked(stdout: Stdout, c: Checked) {
     match c {
-        Checked::Rows(n) => say16(n),
-        Checked::Refused => say_refused(),
+        Checked::Rows(n) => say16(stdout, n),
+        Checked::Refused => say_refused(stdout),
     }
 }
 
-fn say_ranked(r: Ranked) {
+fn say_ranked(stdout: Stdout, r: Ranked) {
     match r {
-        Ranked::Ordinal(k) => say16(k),
-        Ranked::Nothing => say_nothing(),
-        Ranked::Refused => say_refused(),
+        Ranked::Ordinal(k) => say16(stdout, k),
+        Ranked::Nothing => say_nothing(stdout),
+        Ranked::Refused => say_refused(stdout),
     }
 }
 
-fn say_selected(s: Selected) {
+fn say_selected(stdout: Stdout, s: Selected) {
     match s {
-        Selected::Position(p) => say32(p),
-        Selected::Nothing => say_nothing(),
-        Selected::Refused => say_refused(),
+        Selected::Position(p) => say32(stdout, p),
+        Selected::Nothing => say_nothing(stdout),
+        Selected::Refused => say_refused(stdout),
     }
 }
 
-fn check(tag: u8, span: u32, body: &[u8]) {
-    say_checked(rowset::validate(tag, span, body));
+fn check(stdout: Stdout, tag: u8, span: u32, body: &[u8]) {
+    say_checked(stdout, rowset::validate(tag, span, body));
 }
 
 // Tags 1, 3, 8 and 7.
-fn check_tags() {
-    check(1, 5, &[]);
-    check(3, 10, &[3, 0, 4, 0, 5, 0]);
-    check(8, 10, &[3, 0, 0, 0, 4, 0, 4, 0]);
-    check(7, 10, &[9, 0, 0, 0, 4, 0]);
+fn check_tags(stdout: Stdout) {
+    check(stdout, 1, 5, &[]);
+    check(stdout, 3, 10, &[3, 0, 4, 0, 5, 0]);
+    check(stdout, 8, 10, &[3, 0, 0, 0, 4, 0, 4, 0]);
+    check(stdout, 7, 10, &[9, 0, 0, 0, 4, 0]);
 }
 
 // Runs that touch, the same with the second start 3, and the last position that 16 bits hold.
-fn check_runs() {
-    check(4, 10, &[4, 0, 2, 0, 0, 0, 2, 0, 0, 0, 2, 0, 2, 0, 2, 0]);
-    check(4, 10, &[4, 0, 2, 0, 0, 0, 2, 0, 0, 0, 3, 0, 2, 0, 2, 0]);
-    check(4, 65536, &[1, 0, 1, 0, 255, 255, 1, 0, 0, 0]);
+fn check_runs(stdout: Stdout) {
+    check(
+        stdout,
+        4,
+        10,
+        &[4, 0, 2, 0, 0, 0, 2, 0, 0, 0, 2, 0, 2, 0, 2, 0],
+    );
+    check(
+        stdout,
+        4,
+        10,
+        &[4, 0, 2, 0, 0, 0, 2, 0, 0, 0, 3, 0, 2, 0, 2, 0],
+    );
+    check(stdout, 4, 65536, &[1, 0, 1, 0, 255, 255, 1, 0, 0, 0]);
 }
 
 // More rows than ordinals, and tags that there are not.
-fn check_numbers() {
-    check(1, 65536, &[]);
-    check(0, 5, &[]);
-    check(10, 5, &[]);
+fn check_numbers(stdout: Stdout) {
+    check(stdout, 1, 65536, &[]);
+    check(stdout, 0, 5, &[]);
+    check(stdout, 10, 5, &[]);
 }
 
 // Twelve rows in one segment: 100000 + 100 i.
@@ -140,48 +144,48 @@ fn twelve() -> [u8; 44] {
     body
 }
 
-fn rank_twelve(position: u32) {
-    say_ranked(rowset::rank(9, 200000, &twelve(), position));
+fn rank_twelve(stdout: Stdout, position: u32) {
+    say_ranked(stdout, rowset::rank(9, 200000, &twelve(), position));
 }
 
-fn select_twelve(ordinal: u16) {
-    say_selected(rowset::select(9, 200000, &twelve(), ordinal));
+fn select_twelve(stdout: Stdout, ordinal: u16) {
+    say_selected(stdout, rowset::select(9, 200000, &twelve(), ordinal));
 }
 
 // The last two rows, and a place of the output that stays.
-fn walk_twelve() {
+fn walk_twelve(stdout: Stdout) {
     let mut out = [7u32; 3];
     rowset::walk(9, 200000, &twelve(), 10, &mut out);
-    say32(out[0]);
-    say32(out[1]);
-    say32(out[2]);
+    say32(stdout, out[0]);
+    say32(stdout, out[1]);
+    say32(stdout, out[2]);
 }
 
-fn ask_twelve() {
-    check(9, 200000, &twelve());
-    rank_twelve(100300);
-    rank_twelve(100301);
-    select_twelve(11);
-    select_twelve(12);
-    walk_twelve();
+fn ask_twelve(stdout: Stdout) {
+    check(stdout, 9, 200000, &twelve());
+    rank_twelve(stdout, 100300);
+    rank_twelve(stdout, 100301);
+    select_twelve(stdout, 11);
+    select_twelve(stdout, 12);
+    walk_twelve(stdout);
 }
 
-fn say_segment(s: Segment) {
-    say32(s.start);
-    say16(s.span);
-    say16(s.count);
-    say16(s.ordinal);
-    say16(s.offset);
-    say16(s.length);
-    say(s.tag as u64);
+fn say_segment(stdout: Stdout, s: Segment) {
+    say32(stdout, s.start);
+    say16(stdout, s.span);
+    say16(stdout, s.count);
+    say16(stdout, s.ordinal);
+    say16(stdout, s.offset);
+    say16(stdout, s.length);
+    say(stdout, s.tag as u64);
 }
 
-fn say_filled(f: Filled) {
+fn say_filled(stdout: Stdout, f: Filled) {
     match f {
-        Filled::Written(n) => say((n % 1000) as u64),
+        Filled::Written(n) => say(stdout, (n % 1000) as u64),
         Filled::Refused(k) => {
-            say_refused();
-            say(k as u64)
+            say_refused(stdout);
+            say(stdout, k as u64)
         }
     }
 }
@@ -200,13 +204,13 @@ fn sevens() -> Segment {
 }
 
 // Room for two records, on a body: the answer and the first record.
-fn list(tag: u8, span: u32, body: &[u8]) -> Segment {
+fn list(stdout: Stdout, tag: u8, span: u32, body: &[u8]) -> Segment {
     let empty = sevens();
     let pair = tables::segments_pair(tag, span, body, [empty, empty]);
     let answer = pair.answer;
     let table = pair.table;
-    say_filled(answer);
-    say_segment(table[0]);
+    say_filled(stdout, answer);
+    say_segment(stdout, table[0]);
     table[1]
 }
 
@@ -235,24 +239,25 @@ fn three() -> [u8; 52] {
 }
 
 // The one record of twelve rows, with the second place as it was; no records of another tag; a span that is too small; a table that is.
-fn list_segments() {
-    say_segment(list(9, 200000, &twelve()));
-    say_segment(list(3, 10, &[3, 0, 4, 0, 5, 0]));
-    say_segment(list(9, 1000, &twelve()));
-    check(9, 5, &three());
-    say_segment(list(9, 5, &three()));
+fn list_segments(stdout: Stdout) {
+    say_segment(stdout, list(stdout, 9, 200000, &twelve()));
+    say_segment(stdout, list(stdout, 3, 10, &[3, 0, 4, 0, 5, 0]));
+    say_segment(stdout, list(stdout, 9, 1000, &twelve()));
+    check(stdout, 9, 5, &three());
+    say_segment(stdout, list(stdout, 9, 5, &three()));
 }
 
-fn main() {
-    check_tags();
-    check_runs();
-    check_numbers();
-    ask_twelve();
-    gathering::pages();
-    gathering::rows();
-    list_segments();
-    plans::all();
-    plans::edges();
-    plans::seeds();
-    plans::ordinals();
+fn main(rt: HostRuntime) {
+    let stdout = rt.stdout();
+    check_tags(stdout);
+    check_runs(stdout);
+    check_numbers(stdout);
+    ask_twelve(stdout);
+    gathering::pages(stdout);
+    gathering::rows(stdout);
+    list_segments(stdout);
+    plans::all(stdout);
+    plans::edges(stdout);
+    plans::seeds(stdout);
+    plans::ordinals(stdout);
 }

@@ -1,7 +1,7 @@
 // Document 01's rows, planned: the answer, and the body in hexadecimal digits.
 use crate::{say, say_refused, say16, say32};
-use libc::STDOUT_FILENO;
 use plan::Planned;
+use std::io::Stdout;
 
 fn hex(n: u8) -> u8 {
     let d = n % 16;
@@ -9,48 +9,48 @@ fn hex(n: u8) -> u8 {
 }
 
 // The first n bytes of an output, 64 at most.
-fn say_bytes(out: &[u8; 64], n: usize) {
+fn say_bytes(stdout: Stdout, out: &[u8; 64], n: usize) {
     let mut i = 0;
     while i < 64 {
         if i < n {
-            io::write_all(STDOUT_FILENO, &[hex(out[i] / 16), hex(out[i])]);
+            let _ = stdout.write_all(&[hex(out[i] / 16), hex(out[i])]);
         }
         i += 1;
     }
-    io::write_all(STDOUT_FILENO, &[b'\n']);
+    let _ = stdout.write_all(&[b'\n']);
 }
 
-fn say_plan(p: Planned, out: &[u8; 64]) {
+fn say_plan(stdout: Stdout, p: Planned, out: &[u8; 64]) {
     match p {
         Planned::Made(b) => {
-            say(b.tag as u64);
-            say16(b.length);
-            say16(b.segments);
-            say32(b.offers);
-            say_bytes(out, b.length as usize)
+            say(stdout, b.tag as u64);
+            say16(stdout, b.length);
+            say16(stdout, b.segments);
+            say32(stdout, b.offers);
+            say_bytes(stdout, out, b.length as usize)
         }
         Planned::Refused(k) => {
-            say_refused();
-            say(k as u64)
+            say_refused(stdout);
+            say(stdout, k as u64)
         }
     }
 }
 
-fn show(start: u64, end: u64, rows: &[u64]) {
+fn show(stdout: Stdout, start: u64, end: u64, rows: &[u64]) {
     let mut work = [5u32; 72];
     let mut out = [7u8; 64];
     let p = plan::plan_rows(start, end, rows, &[], 65535, &mut work, &mut out);
-    say_plan(p, &out);
+    say_plan(stdout, p, &out);
 }
 
 // Within a few rows, and at the last position of 16 bits.
-fn near() {
-    show(100, 105, &[100, 101, 102, 103, 104]);
-    show(0, 10, &[3, 4, 5]);
-    show(0, 10, &[3, 4, 5, 6]);
-    show(0, 10, &[0, 1, 2, 3, 5, 6, 7, 8, 9]);
-    show(0, 65537, &[65535]);
-    show(0, 65537, &[65536]);
+fn near(stdout: Stdout) {
+    show(stdout, 100, 105, &[100, 101, 102, 103, 104]);
+    show(stdout, 0, 10, &[3, 4, 5]);
+    show(stdout, 0, 10, &[3, 4, 5, 6]);
+    show(stdout, 0, 10, &[0, 1, 2, 3, 5, 6, 7, 8, 9]);
+    show(stdout, 0, 65537, &[65535]);
+    show(stdout, 0, 65537, &[65536]);
 }
 
 // Every other row of 64.
@@ -62,8 +62,9 @@ fn evens() -> [u64; 32] {
 }
 
 // Runs, and every other row.
-fn runs() {
+fn runs(stdout: Stdout) {
     show(
+        stdout,
         0,
         200,
         &[
@@ -71,12 +72,13 @@ fn runs() {
             109,
         ],
     );
-    show(0, 64, &evens());
+    show(stdout, 0, 64, &evens());
 }
 
 // Ten and twelve rows, 100 apart.
-fn apart() {
+fn apart(stdout: Stdout) {
     show(
+        stdout,
         0,
         200000,
         &[
@@ -84,6 +86,7 @@ fn apart() {
         ],
     );
     show(
+        stdout,
         0,
         200000,
         &[
@@ -94,71 +97,73 @@ fn apart() {
 }
 
 // Over several windows.
-fn windows() {
-    show(0, 10000, &[0, 4096, 8192]);
+fn windows(stdout: Stdout) {
+    show(stdout, 0, 10000, &[0, 4096, 8192]);
     show(
+        stdout,
         0,
         8192,
         &[
             0, 1, 2, 3, 4, 6, 7, 8, 9, 4096, 4097, 4098, 4099, 4100, 4101, 4102, 4103, 4104, 4105,
         ],
     );
-    show(0, 65536, &[0, 65534]);
-    show(0, 65536, &[0, 65535]);
+    show(stdout, 0, 65536, &[0, 65534]);
+    show(stdout, 0, 65536, &[0, 65535]);
 }
 
 // Every planning example, in document 01's order.
-pub(crate) fn all() {
-    near();
-    runs();
-    apart();
-    windows();
+pub(crate) fn all(stdout: Stdout) {
+    near(stdout);
+    runs(stdout);
+    apart(stdout);
+    windows(stdout);
 }
 
-fn say8(n: u8) {
-    say(n as u64);
+fn say8(stdout: Stdout, n: u8) {
+    say(stdout, n as u64);
 }
 
 // Refusals 1 to 3, and rows at the top of u64.
-pub(crate) fn edges() {
-    show(7, 7, &[7]);
-    show(0, 10, &[]);
-    show(0, 10, &[3, 3]);
+pub(crate) fn edges(stdout: Stdout) {
+    show(stdout, 7, 7, &[7]);
+    show(stdout, 0, 10, &[]);
+    show(stdout, 0, 10, &[3, 3]);
     show(
+        stdout,
         18446744069414584320,
         18446744073709551615,
         &[18446744069414584320, 18446744073709551614],
     );
 }
 
-fn seeded(seeds: &[u16], limit: usize) {
+fn seeded(stdout: Stdout, seeds: &[u16], limit: usize) {
     let mut work = [5u32; 24];
     let mut out = [7u8; 64];
     let p = plan::plan_rows(0, 10, &[3, 5], seeds, limit, &mut work, &mut out);
-    say_plan(p, &out);
-    say32(work[0]);
-    say8(out[0]);
+    say_plan(stdout, p, &out);
+    say32(stdout, work[0]);
+    say8(stdout, out[0]);
 }
 
 // Refusals 4 and 5, which leave the workspace; 6, and a plan, which zero it.
-pub(crate) fn seeds() {
-    seeded(&[1], 65535);
-    seeded(&[1, 2], 65535);
-    seeded(&[2], 3);
-    seeded(&[2], 4);
+pub(crate) fn seeds(stdout: Stdout) {
+    seeded(stdout, &[1], 65535);
+    seeded(stdout, &[1, 2], 65535);
+    seeded(stdout, &[2], 3);
+    seeded(stdout, &[2], 4);
 }
 
-fn show_ordinals(row_count: u16, limit: usize) {
+fn show_ordinals(stdout: Stdout, row_count: u16, limit: usize) {
     let mut work = [5u32; 24];
     let mut out = [7u8; 64];
     let p = plan::plan_ordinals(row_count, &[3, 5], limit, &mut work, &mut out);
-    say_plan(p, &out);
-    say8(out[3]);
-    say8(out[4]);
+    say_plan(stdout, p, &out);
+    say8(stdout, out[3]);
+    say8(stdout, out[4]);
 }
 
 // The same rows as ordinals, and refusal 3.
-pub(crate) fn ordinals() {
-    show_ordinals(10, 4);
-    show_ordinals(5, 4);
+pub(crate) fn ordinals(stdout: Stdout) {
+    show_ordinals(stdout, 10, 4);
+    show_ordinals(stdout, 5, 4);
 }

@@ -9,8 +9,8 @@
 ghost use Rattle.std.specs.Prelude.{◌≡◌, ◌+◌, ◌-◌, ◌≤◌, ◌<◌, length};
 ghost use Rattle.lister.specs.Window.{Whole, Listed, Slid, stops_of};
 
-use libc::{STDERR_FILENO, STDIN_FILENO, STDOUT_FILENO};
 use listing::{Line, Next, line_of, next_in, put_header, put_line};
+use std::io::{Read, Stderr, Stdin, Stdout};
 
 // Text that waits, and whether every write was taken.
 #[derive(Clone, Copy)]
@@ -32,6 +32,12 @@ fn window() -> [u8; 131072]
     ensures { 131072 ≡ length result }
 {
     [0; 131072]
+}
+
+fn text_space() -> [u8; 65536]
+    ensures { 65536 ≡ length result }
+{
+    [0; 65536]
 }
 
 // The bytes of the whole record in front, with those of its length, and 0 where there is none.
@@ -61,14 +67,14 @@ fn last(left: usize) -> Line {
     if left == 0 { Line::End } else { Line::Broken }
 }
 
-fn flush(out: &[u8], at: usize) -> bool
+fn flush(stdout: Stdout, out: &[u8], at: usize) -> bool
     requires { at ≤ length out.now }
 {
-    io::write_all(STDOUT_FILENO, &out[..at])
+    stdout.write_all(&out[..at]).is_ok()
 }
 
 // Room for one more line.
-fn room(out: &[u8], at: usize) -> Text
+fn room(stdout: Stdout, out: &[u8], at: usize) -> Text
     requires at_in_bounds { at ≤ length out.now }
     requires in_bounds { 128 ≤ length out.now }
     ensures { result.at + 128 ≤ length out.now }
@@ -76,19 +82,21 @@ fn room(out: &[u8], at: usize) -> Text
     if out.len() - at < 128 {
         return Text {
             at: 0,
-            good: flush(out, at),
+            good: flush(stdout, out, at),
         };
     }
     Text { at: at, good: true }
 }
 
 // One read into buf from `at` on. There is room, so that 0 means the end.
-fn read_some(buf: &mut [u8], at: usize) -> usize
+fn read_some(mut stdin: Stdin, buf: &mut [u8], at: usize) -> usize
     requires { at < length buf.old }
     ensures { at + result ≤ length buf.old }
 {
-    let got = libc::read(STDIN_FILENO, &mut buf[at..]);
-    io::count(got, &buf[at..])
+    match stdin.read(&mut buf[at..]) {
+        Ok(n) => n,
+        Err(_) => 0,
+    }
 }
 
 // The bytes lo..hi of buf, to its front.
@@ -105,17 +113,18 @@ fn slide(buf: &mut [u8], lo: usize, hi: usize)
 }
 
 // The bytes lo..hi of buf to its front, and more behind them.
-fn refill(buf: &mut [u8], lo: usize, hi: usize) -> usize
+fn refill(stdin: Stdin, buf: &mut [u8], lo: usize, hi: usize) -> usize
     requires lo_le_hi { (lo ≤ hi) × (hi ≤ length buf.old) }
     requires lo_in_bounds { hi - lo < length buf.old }
     ensures { (hi - lo) + result ≤ length buf.old }
 {
     slide(buf, lo, hi);
-    read_some(buf, hi - lo)
+    read_some(stdin, buf, hi - lo)
 }
 
 // Lists the whole records at lo..hi.
 fn list_some(
+    stdout: Stdout,
     buf: &[u8],
     from: usize,
     hi: usize,
@@ -134,7 +143,7 @@ fn list_some(
     let mut good = true;
     let mut n = whole(&buf[lo..hi]);
     while 4 < n {
-        let text = room(out, at);
+        let text = room(stdout, out, at);
         good = good & text.good;
         at = put_line(out, text.at, line_of(&buf[lo + 4..lo + n]), k);
         lo += n;
@@ -149,24 +158,24 @@ fn list_some(
     }
 }
 
-fn fail() {
-    io::write_all(STDERR_FILENO, b"lister: standard output takes no more\n");
+fn fail(stderr: Stderr) {
+    let _ = eprintln!(stderr; "lister: standard output takes no more");
 }
 
-fn finish(out: &mut [u8], at: usize, line: Line, k: u64)
+fn finish(rt: HostRuntime, out: &mut [u8], at: usize, line: Line, k: u64)
     requires at_in_bounds { at ≤ length out.old }
     requires in_bounds { 128 ≤ length out.old }
 {
-    let text = room(out, at);
+    let text = room(rt.stdout(), out, at);
     let end = put_line(out, text.at, line, k);
-    if !(text.good & flush(out, end)) {
-        fail();
+    if !(text.good & flush(rt.stdout(), out, end)) {
+        fail(rt.stderr());
     }
 }
 
 // Lists everything after the version byte; `got` bytes are read. A proved loop has to end, and nothing says that the input does:
 // `total` counts the bytes read, and where it comes near 2^64 the listing breaks off as if the input stopped there.
-fn list_all(buf: &mut [u8], got: usize, out: &mut [u8], waiting: usize)
+fn list_all(rt: HostRuntime, buf: &mut [u8], got: usize, out: &mut [u8], waiting: usize)
     requires value { 131072 ≡ length buf.old }
     requires le_got { (1 ≤ got) × (got ≤ length buf.old) }
     requires waiting_in_bounds { (waiting ≤ length out.old) × (128 ≤ length out.old) }
@@ -177,21 +186,21 @@ fn list_all(buf: &mut [u8], got: usize, out: &mut [u8], waiting: usize)
     let mut k: u64 = 0;
     let mut total = got as u64;
     while total < 18446744073709420544 {
-        let s = list_some(buf, lo, hi, out, at, k);
+        let s = list_some(rt.stdout(), buf, lo, hi, out, at, k);
         let used = s.lo;
         k = s.k;
-        if !(flush(out, s.at) & s.good) {
-            fail();
+        if !(flush(rt.stdout(), out, s.at) & s.good) {
+            fail(rt.stderr());
             return;
         }
         if stops(next_in(&buf[used..hi])) {
-            finish(out, 0, Line::Broken, k);
+            finish(rt, out, 0, Line::Broken, k);
             return;
         }
-        let more = refill(buf, used, hi);
+        let more = refill(rt.stdin(), buf, used, hi);
         hi -= used;
         if more == 0 {
-            finish(out, 0, last(hi), k);
+            finish(rt, out, 0, last(hi), k);
             return;
         }
         lo = 0;
@@ -199,23 +208,23 @@ fn list_all(buf: &mut [u8], got: usize, out: &mut [u8], waiting: usize)
         hi += more;
         total += more as u64;
     }
-    finish(out, at, Line::Broken, k);
+    finish(rt, out, at, Line::Broken, k);
 }
 
-fn main() {
+fn main(rt: HostRuntime) {
     let mut space = window();
     let buf: &mut [u8] = &mut space;
-    let mut text = io::large_buffer();
+    let mut text = text_space();
     let out: &mut [u8] = &mut text;
     let at = put_header(out, 0);
-    let got = read_some(buf, 0);
+    let got = read_some(rt.stdin(), buf, 0);
     if got == 0 {
-        finish(out, at, Line::Version, 0);
+        finish(rt, out, at, Line::Version, 0);
         return;
     }
     if buf[0] != 1 {
-        finish(out, at, Line::Version, 0);
+        finish(rt, out, at, Line::Version, 0);
         return;
     }
-    list_all(buf, got, out, at);
+    list_all(rt, buf, got, out, at);
 }

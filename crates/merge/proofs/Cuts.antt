@@ -35,6 +35,7 @@ in_some first = omega arith
 in_some (later w) = omega arith
 
 pub meet_order : {a b l m r : ℕ} {cs : List ℕ} → Rising a b cs → Meet cs l m r → (a ≤ l) × (l < m) × (m < r) × (r < b)
+meet_order {l = l} {m = m} {r = r} (none {a = a} {b = b}) x5 = elim x5 [ ]
 meet_order (more p q (more p' q' (more p'' q'' ri))) here = omega arith
 meet_order (more p q ri) (there w) = omega (arith, meet_order ri w)
 

@@ -26,6 +26,7 @@ chain_next (link p ch) (there w) = chain_next ch w
 
 -- a cut with a cut after it
 next-after : {nx : ℕ → ℕ} {n o a : ℕ} {cs : List ℕ} → Rising o (suc n) cs → Chain nx cs → In cs a → 0 < nx a → (a < nx a) × (nx a ≤ n)
+next-after {nx = nx} {n = n} {o = o} {a = a} ri (end e) (later w) h = elim w [ ]
 next-after ri (end e) first h = absurd (omega arith)
 next-after (more p q (more p' q' ri)) (link e ch) first h = omega arith
 next-after (more p q ri) (link e ch) (later w) h = next-after ri ch w h
@@ -66,6 +67,7 @@ pub record Joined (nx nx' : ℕ → ℕ) (l m r : ℕ) : Type 0 where
 
 module _ {nx nx' : ℕ → ℕ} {l m r : ℕ} (u : Joined nx nx' l m r) where
   chain_above : {o b : ℕ} {cs : List ℕ} → Rising o b cs → l < o → m < o → Chain nx cs → Chain nx' cs
+  chain_above (Rattle.model.specs.Lists.none {a = a} {b = b}) hl hm x13 = elim x13 [ ]
   chain_above (more p q ri) hl hm (end {x = x} e) = end (u.else x (λ t. omega arith) (λ t. omega arith) ∙ e)
   chain_above (more p q ri) hl hm (link {x = x} e ch) = link (u.else x (λ t. omega arith) (λ t. omega arith) ∙ e) (chain_above ri (omega arith) (omega arith) ch)
 

@@ -22,14 +22,14 @@ use Rattle.planning.proofs.Narrow.{Through, last, step, through_inside, Slim, Na
 
 -- ---- what holds of them
 
-pub held_parts : {n x : ℕ} {t xs : List ℕ} {segs : List (List ℕ)} → Held n t x xs segs → Parts xs segs
+pub held_parts : {n : ℕ} {t : List ℕ} {x : ℕ} {xs : List ℕ} {segs : List (List ℕ)} → Held n t x xs segs → Parts xs segs
 held_parts (end e z) = nothing z
 held_parts (more e p q some slim s k) = front e some slim (held_parts k)
 
 -- reading the whole slice instead of its records
-pub held_slice : {n x : ℕ} {w xs : List ℕ} {segs : List (List ℕ)} → Held n (records n w) x xs segs → Held n w x xs segs
+pub held_slice : {n : ℕ} {w : List ℕ} {x : ℕ} {xs : List ℕ} {segs : List (List ℕ)} → Held n (records n w) x xs segs → Held n w x xs segs
 held_slice (end e z) = end e z
-held_slice {n} {x} {w} (more {segs = segs} e p q some slim s k) =
+held_slice {n} {w} {x} (more {segs = segs} e p q some slim s k) =
     let f : next w x ≡ next (records n w) x = records-field n w x 0 (omega arith) (omega arith) in
     more {x = x} {segs = segs} e (rw f p) (rw f q) some slim (records_stat n w x (omega arith) ∙ s) (rw f (held_slice k))
 
@@ -41,7 +41,7 @@ same_front xs ys xs' ys' n e = (
 )
 
 -- records hold the rows in one way
-held_go : {n x : ℕ} {t xs ys : List ℕ} {segs segs' : List (List ℕ)} → Held n t x xs segs → Held n t x ys segs' → xs ≡ ys → segs ≡ segs'
+held_go : {n : ℕ} {t : List ℕ} {x : ℕ} {xs ys : List ℕ} {segs segs' : List (List ℕ)} → Held n t x xs segs → Held n t x ys segs' → xs ≡ ys → segs ≡ segs'
 unfolding stats_of
 held_go (end e z) (end e' z') same = refl
 held_go (end e z) (more e' p q some slim s k) same = absurd (omega arith)

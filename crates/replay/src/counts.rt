@@ -3,7 +3,7 @@
 // deletions planned, none, refused, deletions read, refused.
 use crate::list::number8;
 use crate::plans::flag;
-use libc::STDOUT_FILENO;
+use std::io::Stdout;
 
 // Counts end at 2^32: a list is far shorter.
 fn add(counts: &mut [u64], i: usize, more: u8) {
@@ -103,25 +103,31 @@ fn at(counts: &[u64], i: usize) -> u64 {
 }
 
 // A text and the counts from `from` to before `to`, on a line.
-fn line(text: &[u8], counts: &[u64], from: usize, to: usize) {
-    io::write_all(STDOUT_FILENO, text);
+fn line(stdout: Stdout, text: &[u8], counts: &[u64], from: usize, to: usize) {
+    let _ = stdout.write_all(text);
     let mut i = from;
     while i < to {
-        io::write_all(STDOUT_FILENO, b" ");
-        io::print_decimal(STDOUT_FILENO, at(counts, i));
+        let n = at(counts, i);
+        let _ = print!(stdout; " {n}");
         i += 1;
     }
-    io::write_all(STDOUT_FILENO, b"\n");
+    let _ = println!(stdout);
 }
 
-pub(crate) fn say(counts: &[u64]) {
-    line(b"plans with tags 1 to 9:", counts, 1, 10);
-    line(b"plans refused with numbers 1 to 6:", counts, 11, 17);
-    line(b"also planned as ordinals:", counts, 31, 32);
-    line(b"bodies accepted with tags 1 to 9:", counts, 21, 30);
-    line(b"bodies refused:", counts, 30, 31);
-    line(b"trimmed bitmaps planned, read:", counts, 32, 34);
-    line(b"ranks, selects, walks:", counts, 34, 37);
-    line(b"deletions planned, none, refused:", counts, 37, 40);
-    line(b"deletions read, refused:", counts, 40, 42);
+pub(crate) fn say(stdout: Stdout, counts: &[u64]) {
+    line(stdout, b"plans with tags 1 to 9:", counts, 1, 10);
+    line(
+        stdout,
+        b"plans refused with numbers 1 to 6:",
+        counts,
+        11,
+        17,
+    );
+    line(stdout, b"also planned as ordinals:", counts, 31, 32);
+    line(stdout, b"bodies accepted with tags 1 to 9:", counts, 21, 30);
+    line(stdout, b"bodies refused:", counts, 30, 31);
+    line(stdout, b"trimmed bitmaps planned, read:", counts, 32, 34);
+    line(stdout, b"ranks, selects, walks:", counts, 34, 37);
+    line(stdout, b"deletions planned, none, refused:", counts, 37, 40);
+    line(stdout, b"deletions read, refused:", counts, 40, 42);
 }

@@ -16,8 +16,8 @@ mod spaces;
 
 ghost use Rattle.std.specs.Prelude.{◌≡◌, ◌+◌, ◌≤◌, ◌<◌, length};
 
-use libc::{STDIN_FILENO, STDOUT_FILENO};
 use list::count32;
+use std::io::{Read, Stdin, Stdout};
 
 // How the run ended: 0 every case came out as the list says, 2 one did not, 3 one is broken. And how many did before that.
 #[derive(Clone, Copy)]
@@ -98,45 +98,70 @@ fn run_all(list: &[u8], counts: &mut [u64]) -> Ended {
     Ended { how: 0, cases: k }
 }
 
-fn say_ended(e: Ended) {
+fn say_ended(stdout: Stdout, e: Ended) {
+    let k = e.cases;
     if e.how == 0 {
-        io::write_all(STDOUT_FILENO, b"cases ");
-        io::print_decimal(STDOUT_FILENO, e.cases);
-        io::write_all(STDOUT_FILENO, b"\ndifferences 0\n");
+        let _ = println!(stdout; "cases {k}\ndifferences 0");
         return;
     }
     if e.how == 2 {
-        io::write_all(STDOUT_FILENO, b"first difference at case ");
+        let _ = println!(stdout; "first difference at case {k}");
     } else {
-        io::write_all(STDOUT_FILENO, b"broken at case ");
+        let _ = println!(stdout; "broken at case {k}");
     }
-    io::print_decimal(STDOUT_FILENO, e.cases);
-    io::write_all(STDOUT_FILENO, b"\n");
 }
 
-fn run(list: &[u8]) {
+// One read into list from `at` on: 0 at the end of the input, and where the read fails.
+fn read_some(mut stdin: Stdin, list: &mut [u8], at: usize) -> usize
+    requires { at ≤ length list.old }
+    ensures { at + result ≤ length list.old }
+{
+    match stdin.read(&mut list[at..]) {
+        Ok(n) => n,
+        Err(_) => 0,
+    }
+}
+
+// Reads until list is full, the input ends or a read fails, and answers how many bytes stand in front.
+fn read_full(stdin: Stdin, list: &mut [u8]) -> usize
+    ensures { result ≤ length list.old }
+{
+    let end = list.len();
+    let mut got = 0;
+    while got < end {
+        let more = read_some(stdin, list, got);
+        if more == 0 {
+            return got;
+        }
+        got += more;
+    }
+    got
+}
+
+fn run(stdout: Stdout, list: &[u8]) {
     let mut counts = [0u64; 42];
     let ended = run_all(list, &mut counts);
-    counts::say(&counts);
-    say_ended(ended);
+    counts::say(stdout, &counts);
+    say_ended(stdout, ended);
 }
 
-fn main() {
+fn main(rt: HostRuntime) {
+    let stdout = rt.stdout();
     let mut space = list_space();
     let list: &mut [u8] = &mut space;
-    let got = io::read_full(STDIN_FILENO, list);
+    let got = read_full(rt.stdin(), list);
     if got == 0 {
-        say_ended(Ended { how: 3, cases: 0 });
+        say_ended(stdout, Ended { how: 3, cases: 0 });
         return;
     }
     if got == list.len() {
-        say_ended(Ended { how: 3, cases: 0 });
+        say_ended(stdout, Ended { how: 3, cases: 0 });
         return;
     }
     if list[0] != 1 {
-        say_ended(Ended { how: 3, cases: 0 });
+        say_ended(stdout, Ended { how: 3, cases: 0 });
         return;
     }
     let read = &list[..];
-    run(&read[0..got]);
+    run(stdout, &read[0..got]);
 }

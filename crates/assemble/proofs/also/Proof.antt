@@ -14,8 +14,8 @@ also_spec =
     (tie.spec
     (λ c κs. search rules)
     (λ c. search rules)
-    (λ c. omega (arith, form-short _ c.before.before.before.before.requires.short c.before.before.before.local-form.ensures))
+    (λ c. omega (arith, form-short _ c.requires.short c.local_form-f.ensures))
     (λ c κs. search rules)
     (λ c κs. search rules)
     (λ c κs. search rules)
-    (λ c. rw (c.before.before.larger.ensures, c.before.larger2.ensures, c.join.ensures, c.before.before.before.before.before.before.local-form.ensures)))
+    (λ c. rw (c.larger.ensures, c.larger-2.ensures, c.join.ensures, c.local_form-f.ensures)))

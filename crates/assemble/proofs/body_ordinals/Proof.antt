@@ -10,13 +10,13 @@ pub body_ordinals_spec : {M : Type 1} → statement M
 body_ordinals_spec =
     tie.close
     (tie.spec
-    (λ c κs. segments_ask c.before.before.before.before.before.before.requires c.before.if1.true)
+    (λ c κs. segments_ask c.requires c.if-f-eq9.true)
     (λ c. search rules)
-    (λ c. segments_laid c.before.before.before.before.if1.true c.before.before.segmented-ordinals.ensures)
-    (λ c κs. trimmed_ask c.before.before.before.before.before.before.before.requires c.before.before.if1.false c.before.if2.true)
+    (λ c. segments_laid c.if-f-eq9.true c.segmented_ordinals.ensures)
+    (λ c κs. trimmed_ask c.requires c.if-f-eq9.false c.if-f.true)
     (λ c. search rules)
-    (λ c. trimmed_laid c.before.before.before.before.before.if1.false c.before.before.before.before.if2.true c.before.before.trimmed-ordinals.ensures)
-    (λ c. omega (arith, runs_known c.before.before.before.before.before.before.before.before.before.requires))
-    (λ c κs. plain_ask c.before.before.before.before.before.before.before.before.before.requires c.before.before.before.before.if1.false c.before.before.before.if2.false)
+    (λ c. trimmed_laid c.if-f-eq9.false c.if-f.true c.trimmed_ordinals.ensures)
+    (λ c. omega (arith, runs_known c.requires))
+    (λ c κs. plain_ask c.requires c.if-f-eq9.false c.if-f.false)
     (λ c. search rules)
-    (λ c. plain_laid c.before.before.before.before.before.before.before.if1.false c.before.before.before.before.before.before.if2.false c.before.before.plain-ordinals.ensures))
+    (λ c. plain_laid c.if-f-eq9.false c.if-f.false c.plain_ordinals.ensures))

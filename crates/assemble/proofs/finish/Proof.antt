@@ -16,5 +16,5 @@ finish_spec =
     (λ c. search rules)
     (λ c. search rules)
     (λ c κs. search rules)
-    (λ c. omega (arith, shallow _ c.before.before.before.before.requires.few, c.before.depth.ensures))
-    (λ c. rw c.before.depth.ensures))
+    (λ c. omega (arith, shallow _ c.requires.few, c.depth.ensures))
+    (λ c. rw c.depth.ensures))

@@ -7,4 +7,4 @@ use Rattle.assemble.proofs.head.Statement.{statement}
 use Rattle.assemble.proofs.head.Tie as tie
 
 pub head_spec : {M : Type 1} → statement M
-head_spec = tie.close (tie.spec (λ c κs. search rules) (λ c κs. search rules) (λ c. search rules) (λ c. written-more (written-put 2 _ 0 c.before.before.before.before.before.before.put16.ensures refl) (written-put 2 _ 2 c.before.before.put162.ensures refl)))
+head_spec = tie.close (tie.spec (λ c κs. search rules) (λ c κs. search rules) (λ c. search rules) (λ c. written-more (written-put 2 _ 0 c.put16.ensures refl) (written-put 2 _ 2 c.put16-2.ensures refl)))

@@ -6,4 +6,4 @@ use Rattle.assemble.proofs.larger.Statement.{statement}
 use Rattle.assemble.proofs.larger.Tie as tie
 
 pub larger_spec : {M : Type 1} → statement M
-larger_spec = tie.close (tie.spec (λ c. sym (larger-right c.if1.true)) (λ c. sym (larger-left c.if1.false)))
+larger_spec = tie.close (tie.spec (λ c. sym (larger-right c.if-a-b.true)) (λ c. sym (larger-left c.if-a-b.false)))

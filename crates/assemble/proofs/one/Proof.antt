@@ -7,4 +7,4 @@ use Rattle.assemble.proofs.one.Tie as tie
 
 pub one_spec : {M : Type 1} → statement M
 unfolding one
-one_spec = tie.close (tie.spec (λ c κs. search rules) (λ c. rw c.local-form.ensures))
+one_spec = tie.close (tie.spec (λ c κs. search rules) (λ c. rw c.local_form-f.ensures))

@@ -7,4 +7,4 @@ use Rattle.encode.proofs.beside.Statement.{statement}
 use Rattle.encode.proofs.beside.Tie as tie
 
 pub beside_spec : {M : Type 1} → statement M
-beside_spec = tie.close (tie.spec (λ c. sym (pick_true _ _ (lt-ltb _ _ c.if1.true))) (λ c. sym (pick_false _ _ (le-ltb _ _ c.if1.false))))
+beside_spec = tie.close (tie.spec (λ c. sym (pick_true _ _ (lt-ltb _ _ c.if-tag-lt6.true))) (λ c. sym (pick_false _ _ (le-ltb _ _ c.if-tag-lt6.false))))

@@ -18,4 +18,4 @@ bitmap_header_spec =
     (λ c κs. search rules)
     (λ c. search rules)
     (λ c. search rules)
-    (λ c. bitmap-written _ _ _ _ c.before.before.before.before.before.before.before.before.before.before.before.before.before.before.put16.ensures c.before.before.before.before.before.before.before.before.before.before.put162.ensures c.before.before.before.before.before.before.put32.ensures c.before.before.put322.ensures))
+    (λ c. bitmap-written _ _ _ _ c.put16.ensures c.put16-2.ensures c.put32.ensures c.put32-2.ensures))

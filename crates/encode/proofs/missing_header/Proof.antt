@@ -17,4 +17,4 @@ missing_header_spec =
     (λ c κs. search rules)
     (λ c. search rules)
     (λ c. search rules)
-    (λ c. missing-written _ _ _ _ c.before.before.before.before.before.before.before.before.before.before.put32.ensures c.before.before.before.before.before.before.put16.ensures c.before.before.put162.ensures))
+    (λ c. missing-written _ _ _ _ c.put32.ensures c.put16.ensures c.put16-2.ensures))

@@ -10,7 +10,7 @@ plain_rows_spec =
     tie.close
     (tie.spec
     (λ c. search rules)
-    (λ c κs. let g = c.before.before.before.requires in plain_head _ _ _ _ g.2 g.3)
-    (λ c κs. let g = c.before.before.before.before.before.before.before.requires in (g.0, g.1, rest-room _ _ (plain_own _ _ _ _ g.2) c.before.before.before.plain-header.ensures g.3))
+    (λ c κs. let g = c.requires in plain_head _ _ _ _ g.2 g.3)
+    (λ c κs. let g = c.requires in (g.0, g.1, rest-room _ _ (plain_own _ _ _ _ g.2) c.plain_header-p.ensures g.3))
     (λ c. search rules)
-    (λ c. both-written _ _ (plain_own _ _ _ _ c.before.before.before.before.before.before.before.before.before.before.requires.2) c.before.before.before.before.before.before.plain-header.ensures c.before.before.local-rows.ensures))
+    (λ c. both-written _ _ (plain_own _ _ _ _ c.requires.2) c.plain_header-p.ensures c.local_rows.ensures))

@@ -24,6 +24,6 @@ put_entry_spec =
     (λ c. search rules)
     (λ c. search rules)
     (λ c κs. search rules)
-    (λ c. omega (arith, c.before.before.before.before.before.before.before.before.before.before.before.before.before.before.before.before.before.before.before.before.before.before.before.before.before.before.before.before.before.before.requires, c.before.before.before.before.before.before.before.before.before.before.before.before.before.before.before.before.before.before.before.before.before.before.before.before.before.before.before.before.before.before.well-formed.0.0))
+    (λ c. omega (arith, c.requires, c.before.before.before.before.before.before.before.before.before.before.before.before.before.before.before.before.before.before.before.before.before.before.before.before.before.before.before.before.before.before.well_formed.0.0))
     (λ c. search rules)
-    (λ c. entry-written _ _ c.before.before.before.before.before.before.before.before.before.before.before.before.before.before.before.before.before.before.before.before.before.before.before.before.before.before.before.put32.ensures c.before.before.before.before.before.before.before.before.before.before.before.before.before.before.before.before.before.before.before.before.before.before.before.put16.ensures c.before.before.before.before.before.before.before.before.before.before.before.before.before.before.before.before.before.before.before.put162.ensures c.before.before.before.before.before.before.before.before.before.before.before.before.before.before.before.put163.ensures c.before.before.before.before.before.before.before.before.before.before.before.put164.ensures c.before.before.before.before.before.before.before.put165.ensures c.before.before.put166.ensures))
+    (λ c. entry-written _ _ c.put32.ensures c.put16.ensures c.put16-2.ensures c.put16-3.ensures c.put16-4.ensures c.put16-5.ensures c.put16-6.ensures))

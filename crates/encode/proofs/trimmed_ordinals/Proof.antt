@@ -12,31 +12,31 @@ pub trimmed_ordinals_spec : {M : Type 1} → statement M
 trimmed_ordinals_spec =
     tie.close
     (tie.spec
-    (λ c. omega (arith, c.before.before.before.requires.0.some))
+    (λ c. omega (arith, c.requires.0.some))
     (λ c κs. search rules)
-    (λ c. omega (arith, c.before.before.before.before.requires.0.some))
-    (λ c. omega (arith, c.before.before.before.before.requires.1))
-    (λ c. omega (arith, c.before.before.before.before.before.requires.0.some))
-    (λ c κs. let e = ends_in _ _ c.before.before.before.before.before.requires.0 in e.1)
-    (λ c. omega (arith, c.before.before.before.before.before.before.before.before.requires.1))
-    (λ c κs. let x = c.before.before in let g = c.before.before.before.before.before.before.before.before.requires in bitmap_head _ _ g.0 x.before.before.wide.ensures x.extent16.ensures refl c.before.if1.true g.2)
+    (λ c. omega (arith, c.requires.0.some))
+    (λ c. omega (arith, c.requires.1))
+    (λ c. omega (arith, c.requires.0.some))
+    (λ c κs. let e = ends_in _ _ c.requires.0 in e.1)
+    (λ c. omega (arith, c.requires.1))
+    (λ c κs. let x = c.before.before in let g = c.requires in bitmap_head _ _ g.0 x.wide-base.ensures x.extent16-span.ensures refl c.if-tag-eq6.true g.2)
     (λ c κs.
-    let g = c.before.before.before.before.before.before.before.before.before.before.before.before.requires in
+    let g = c.requires in
     let x = c.before.before.before.before.before.before in
-    (rising-ends g.0.rising x.extent16.ensures, g.1, rest-room _ _ (bitmap-own _ _ g.0 x.before.before.wide.ensures x.extent16.ensures refl c.before.before.before.before.before.if1.true) c.before.before.before.bitmap-header.ensures g.2))
+    (rising-ends g.0.rising x.extent16-span.ensures, g.1, rest-room _ _ (bitmap-own _ _ g.0 x.wide-base.ensures x.extent16-span.ensures refl c.if-tag-eq6.true) c.bitmap_header-p.ensures g.2))
     (λ c. search rules)
     (λ c.
-    let g = c.before.before.before.before.before.before.before.before.before.before.before.before.before.before.before.requires in
+    let g = c.requires in
     let x = c.before.before.before.before.before.before.before.before.before in
-    both-written _ _ (bitmap-own _ _ g.0 x.before.before.wide.ensures x.extent16.ensures refl c.before.before.before.before.before.before.before.before.if1.true) c.before.before.before.before.before.before.bitmap-header.ensures c.before.before.local-ordinals.ensures)
-    (λ c. omega (arith, c.before.before.before.before.before.before.before.before.requires.1))
-    (λ c κs. let x = c.before.before in let g = c.before.before.before.before.before.before.before.before.requires in missing_head _ _ g.0 x.before.before.wide.ensures x.extent16.ensures refl c.before.if1.false g.2)
+    both-written _ _ (bitmap-own _ _ g.0 x.wide-base.ensures x.extent16-span.ensures refl c.if-tag-eq6.true) c.bitmap_header-p.ensures c.local_ordinals.ensures)
+    (λ c. omega (arith, c.requires.1))
+    (λ c κs. let x = c.before.before in let g = c.requires in missing_head _ _ g.0 x.wide-base.ensures x.extent16-span.ensures refl c.if-tag-eq6.false g.2)
     (λ c κs.
-    let g = c.before.before.before.before.before.before.before.before.before.before.before.before.requires in
+    let g = c.requires in
     let x = c.before.before.before.before.before.before in
-    (rising-ends g.0.rising x.extent16.ensures, g.1, rest-room _ _ (missing-own _ _ g.0 x.before.before.wide.ensures x.extent16.ensures refl c.before.before.before.before.before.if1.false) c.before.before.before.missing-header.ensures g.2))
+    (rising-ends g.0.rising x.extent16-span.ensures, g.1, rest-room _ _ (missing-own _ _ g.0 x.wide-base.ensures x.extent16-span.ensures refl c.if-tag-eq6.false) c.missing_header-p.ensures g.2))
     (λ c. search rules)
     (λ c.
-    let g = c.before.before.before.before.before.before.before.before.before.before.before.before.before.before.before.requires in
+    let g = c.requires in
     let x = c.before.before.before.before.before.before.before.before.before in
-    both-written _ _ (missing-own _ _ g.0 x.before.before.wide.ensures x.extent16.ensures refl c.before.before.before.before.before.before.before.before.if1.false) c.before.before.before.before.before.before.missing-header.ensures c.before.before.local-ordinals2.ensures))
+    both-written _ _ (missing-own _ _ g.0 x.wide-base.ensures x.extent16-span.ensures refl c.if-tag-eq6.false) c.missing_header-p.ensures c.local_ordinals-2.ensures))

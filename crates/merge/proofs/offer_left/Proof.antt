@@ -15,16 +15,11 @@ offer_left_spec =
     (tie.spec
     (λ c κs. search rules)
     (λ c κs.
-    let read = c.before in
-    let test = read.before.before in
-    let pre = test.before.before.requires in
-    left_reads _ _ _ _ _ _ pre.0 pre.1.0 pre.1.1.0 (pre.1.1.1 test.if1.true) read.cell.ensures.0)
+    let pre = c.requires in
+    left_reads _ _ _ _ _ _ pre.0 pre.1.0 pre.1.1.0 (pre.1.1.1 c.if-l-gt0.true) c.cell-p.ensures.0)
     (λ c. search rules)
     (λ c.
-    let call = c.before.before in
-    let read = call.before.before in
-    let test = read.before.before in
-    let args = test.before.before.args in
-    let p = read.cell.ensures.0 ∙ records-field args.n args.w.now args.l 1 (omega arith) (omega arith) in
-    added-left _ _ _ test.if1.true p call.offer.ensures)
-    (λ c. added_none _ _ c.if1.false c.before.before.requires.1.1.0))
+    let args = c.args in
+    let p = c.cell-p.ensures.0 ∙ records-field args.n args.w.now args.l 1 (omega arith) (omega arith) in
+    added-left _ _ _ c.if-l-gt0.true p c.offer.ensures)
+    (λ c. added_none _ _ c.if-l-gt0.false c.requires.1.1.0))

@@ -10,12 +10,12 @@ use Rattle.merge.proofs.Steps.{right_reads}
 use Rattle.merge.proofs.offer_right.Statement.{statement}
 use Rattle.merge.proofs.offer_right.Tie as tie
 
-abbrev given : tie.After-cell → tie.Start
-given s = s.before.before.before
+abbrev given : tie.After-cell-z → tie.Start
+given s = s.before.before
 
 -- the cut that is read
-after : (s : tie.After-cell) → s.cell.result ≡ next (records (given s).args.n (given s).args.w.now) (given s).args.r
-after s = s.cell.ensures.0 ∙ records-field (given s).args.n (given s).args.w.now (given s).args.r 0 (omega arith) (omega arith)
+after : (s : tie.After-cell-z) → s.cell-z.result ≡ next (records (given s).args.n (given s).args.w.now) (given s).args.r
+after s = s.cell-z.ensures.0 ∙ records-field (given s).args.n (given s).args.w.now (given s).args.r 0 (omega arith) (omega arith)
 
 pub offer_right_spec : {M : Type 1} → statement M
 offer_right_spec =
@@ -23,18 +23,15 @@ offer_right_spec =
     (tie.spec
     (λ c κs. search rules)
     (λ c κs.
-    let test = c.before in
-    let read = test.before in
+    let read = c.before.before in
     let e = after read in
     let pre = (given read).requires in
-    right_reads _ _ _ _ _ _ pre.0 pre.1.0 pre.1.1.0 (pre.1.1.1 (omega (arith, test.if1.true))) e)
+    right_reads _ _ _ _ _ _ pre.0 pre.1.0 pre.1.1.0 (pre.1.1.1 (omega (arith, c.if-z-gt0.true))) e)
     (λ c. search rules)
     (λ c.
-    let call = c.before.before in
-    let test = call.before.before in
-    added-right _ _ _ test.if1.true (after test.before) call.offer.ensures)
+    added-right _ _ _ c.if-z-gt0.true (after c.before.before.before.before.before) c.offer.ensures)
     (λ c. search rules)
     (λ c.
     let at = given c.before in
     let e = after c.before in
-    added_none (next (records at.args.n at.args.w.now) at.args.r) _ (omega (arith, c.if1.false)) at.pre.1.1.0))
+    added_none (next (records at.args.n at.args.w.now) at.args.r) _ (omega (arith, c.if-z-gt0.false)) at.requires.1.1.0))

@@ -10,7 +10,7 @@ use Rattle.merge.proofs.take_offer.Statement.{statement}
 use Rattle.merge.proofs.take_offer.Tie as tie
 
 abbrev given : tie.After-live → tie.Start
-given s = s.before.before.before
+given s = s.before.before
 
 -- what the test answered is so of the records
 answered : (s : tie.After-live) (u : Bool) → s.live.result ≡ u → is_live (records (given s).args.n (given s).args.w.now) (given s).args.o.left (given s).args.o.middle (given s).args.o.right ≡ u
@@ -22,13 +22,10 @@ take_offer_spec =
     (tie.spec
     (λ c κs. search rules)
     (λ c κs.
-    let test = c.before in
-    let pre = (given test.before).requires in
-    ((pre.1.1.1 (answered test.before _ test.if1.true), pre.0.1), (pre.1.0, pre.1.1.0)))
+    let pre = (given c.before.before).requires in
+    ((pre.1.1.1 (answered c.before.before _ c.if-live.true), pre.0.1), (pre.1.0, pre.1.1.0)))
     (λ c. search rules)
     (λ c.
-    let call = c.before.before in
-    let test = call.before.before in
-    record { live = λ _. call.join-pair.ensures; stale = λ f. never (answered test.before _ test.if1.true) f })
+    record { live = λ _. c.join_pair.ensures; stale = λ f. never (answered c.before.before.before.before.before _ c.if-live.true) f })
     (λ c. search rules)
-    (λ c. record { live = λ t. never t (answered c.before _ c.if1.false); stale = λ _. (refl, refl) }))
+    (λ c. record { live = λ t. never t (answered c.before _ c.if-live.false); stale = λ _. (refl, refl) }))

@@ -12,5 +12,5 @@ choose_spec =
     tie.close
     (tie.spec
     (λ c κs. search rules)
-    (λ c. rw (← c.before.wins.ensures, c.if1.true))
-    (λ c. rw (← c.before.wins.ensures, c.if1.false)))
+    (λ c. rw (← c.wins.ensures, c.if-wins.true))
+    (λ c. rw (← c.wins.ensures, c.if-wins.false)))

@@ -18,16 +18,15 @@ decide_spec =
     tie.close
     (tie.spec
     (λ c κs.
-    let m = c.before.before.requires.2 in
+    let m = c.requires.2 in
     ((m.some, m.most, omega (arith, m.room, m.some)), m.seeds))
     (λ c κs.
-    let j = c.before.before.before in
-    let p = j.before.before.before.requires in
+    let p = c.requires in
     let m = p.2 in
-    let h = m.held _ j.join-seeds.auto.0 j.join-seeds.ensures.1.1 in
+    let h = m.held _ c.join_seeds-offers.auto.w c.join_seeds-offers.ensures.1.1 in
     record {
       seeds = m.most;
-      room = omega (arith, m.room, m.some, j.join-seeds.auto.0);
+      room = omega (arith, m.room, m.some, c.join_seeds-offers.auto.w);
       rows = p.0;
       rising = rising_wider (omega arith) m.wide m.rising;
       segs = segments_of p.0 p.1;
@@ -35,22 +34,19 @@ decide_spec =
       held = h;
     })
     (λ c κs.
-    let j = c.before.before.before.before in
-    let m = j.before.before.before.requires.2 in
-    rw (c.summarize.ensures.stats _ _ (m.held _ j.join-seeds.auto.0 j.join-seeds.ensures.1.1)) (over-stats m.rising m.rows m.wide))
+    let m = c.requires.2 in
+    rw (c.summarize-sum.ensures.stats _ _ (m.held _ c.join_seeds-offers.auto.w c.join_seeds-offers.ensures.1.1)) (over-stats m.rising m.rows m.wide))
     (λ c κs.
-    let j = c.before.before.before.before.before in
-    let m = j.before.before.before.requires.2 in
-    rw (c.before.summarize.ensures.form _ _ (m.held _ j.join-seeds.auto.0 j.join-seeds.ensures.1.1)) (tag_nine _))
+    let m = c.requires.2 in
+    rw (c.summarize-sum.ensures.form _ _ (m.held _ c.join_seeds-offers.auto.w c.join_seeds-offers.ensures.1.1)) (tag_nine _))
     (λ c. search rules)
     (λ c xs ends m.
-    let j = c.before.before.before.before.before.before in
-    let h = m.held _ j.join-seeds.auto.0 j.join-seeds.ensures.1.1 in
-    let s = c.before.before.summarize.ensures in
+    let h = m.held _ c.join_seeds-offers.auto.w c.join_seeds-offers.ensures.1.1 in
+    let s = c.summarize-sum.ensures in
     record {
       held = h;
       sum = s;
-      form = c.choose.ensures ∙ rw (c.before.whole-form.ensures, s.segments xs (segments_of xs ends) h, s.form xs (segments_of xs ends) h, s.stats xs (segments_of xs ends) h);
-      offers = j.join-seeds.ensures.0 ∙ m.offers;
-      most = j.join-seeds.ensures.1.0;
+      form = c.choose.ensures ∙ rw (c.whole_form-whole.ensures, s.segments xs (segments_of xs ends) h, s.form xs (segments_of xs ends) h, s.stats xs (segments_of xs ends) h);
+      offers = c.join_seeds-offers.ensures.0 ∙ m.offers;
+      most = c.join_seeds-offers.ensures.1.0;
     }))

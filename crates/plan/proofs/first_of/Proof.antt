@@ -7,4 +7,4 @@ use Rattle.plan.proofs.first_of.Tie as tie
 
 pub first_of_spec : {M : Type 1} → statement M
 unfolding pick
-first_of_spec = tie.close (tie.spec (λ c. rw (eq-eqb _ _ c.if1.true)) (λ c. rw (ne_eqb _ _ c.if1.false)))
+first_of_spec = tie.close (tie.spec (λ c. rw (eq-eqb _ _ c.if-a-eq0.true)) (λ c. rw (ne_eqb _ _ c.if-a-eq0.false)))

@@ -13,4 +13,4 @@ late_spec =
     (λ c κs. search rules)
     (λ c κs. search rules)
     (λ c κs. search rules)
-    (λ c. c.first_of.ensures ∙ rw (c.before.before.six.ensures, c.before.seven.ensures) (first-late _ _ _)))
+    (λ c. c.first_of.ensures ∙ rw (c.six-long.ensures, c.seven-short.ensures) (first-late _ _ _)))

@@ -9,19 +9,19 @@ use Rattle.plan.proofs.Steps.{early-refused, seeds-few, Lent, lent, lent_inside,
 use Rattle.plan.proofs.plan_ordinals.Statement.{statement}
 use Rattle.plan.proofs.plan_ordinals.Tie as tie
 
-abbrev judged : tie.Else1 → tie.After-ordinals-early
+abbrev judged : tie.Else-judged-ne0 → tie.After-ordinals_early-judged
 judged e = e.before.before
 
-abbrev entry : tie.Else1 → tie.Start
+abbrev entry : tie.Else-judged-ne0 → tie.Start
 entry e = (judged e).before.before.before.before
 
 -- the words that are lent, and what comes back of them
-words : (w : tie.After-words-for)
-    → Lent 0 (entry w.before).args.count (entry w.before).args.ordinals.now [] (entry w.before).args.work.now (judged w.before).ordinals-early.result.seeds w.words-for.result
-words w = lent (judged w.before).ordinals-early.ensures w.before.if1.false w.words-for.ensures
+words : (w : tie.After-words_for-words)
+    → Lent 0 (entry w.before).args.count (entry w.before).args.ordinals.now [] (entry w.before).args.work.now (judged w.before).ordinals_early-judged.result.seeds w.words_for-words.result
+words w = lent (judged w.before).ordinals_early-judged.ensures w.if-judged-ne0.false w.words_for-words.ensures
 
-abbrev back : tie.After-planned-ordinals → List ℕ
-back p = p.planned-ordinals.new.1.1.1.1.0
+abbrev back : tie.After-planned_ordinals-r → List ℕ
+back p = p.planned_ordinals-r.new.w
 
 pub plan_ordinals_spec : {M : Type 1} → statement M
 unfolding planned_of
@@ -29,18 +29,18 @@ plan_ordinals_spec =
     tie.close
     (tie.spec
     (λ c κs. search rules)
-    (λ c. early-refused c.before.before.ordinals-early.ensures _ _ _ refl c.if1.true)
-    (λ c κs. seeds-few (judged c).ordinals-early.ensures c.if1.false)
+    (λ c. early-refused c.ordinals_early-judged.ensures _ _ _ refl c.if-judged-ne0.true)
+    (λ c κs. seeds-few (judged c).ordinals_early-judged.ensures c.if-judged-ne0.false)
     (λ c. search rules)
     (λ c. search rules)
     (λ c. lent_inside (words c))
     (λ c κs. lent_tested (words c.before.before))
     (λ c κs.
     let p = c.before.before.before.before.before in
-    back_room (words p.before.before.before) (back p) p.planned-ordinals.auto.1.1.1.1.0 _)
+    back_room (words p.before.before.before) (back p) p.planned_ordinals-r.auto.w _)
     (λ c. search rules)
     (λ c. search rules)
     (λ c.
     let k = c.before.before in
     let p = k.before.before.before.before.before.before in
-    back_planned (words p.before.before.before) (back p) p.planned-ordinals.auto.1.1.1.1.0 _ _ p.planned-ordinals.ensures.0 p.planned-ordinals.ensures.1 k.clear.ensures))
+    back_planned (words p.before.before.before) (back p) p.planned_ordinals-r.auto.w _ _ p.planned_ordinals-r.ensures.0 p.planned_ordinals-r.ensures.1 k.clear.ensures))

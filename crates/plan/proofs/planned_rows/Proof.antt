@@ -8,22 +8,22 @@ use Rattle.plan.proofs.Steps.{coverage, seedable, seeded, Chosen, chosen, late-r
 use Rattle.plan.proofs.planned_rows.Statement.{statement}
 use Rattle.plan.proofs.planned_rows.Tie as tie
 
-abbrev entry : tie.After-decide-arg → tie.Start
+abbrev entry : tie.After-decide-arg-1 → tie.Start
 entry c = c.before.before.before.before.before.before.before.before.before.before
 
-abbrev decision : tie.After-late → tie.After-decide
+abbrev decision : tie.After-late-k → tie.After-decide-d
 decision l = l.before.before.before
 
-abbrev spanned : tie.After-decide-arg → ℕ
-spanned c = c.before.before.before.before.before.Span-of.result
+abbrev spanned : tie.After-decide-arg-1 → ℕ
+spanned c = c.span_of-span.result
 
 -- what is known once the last tests are asked
-tried : (l : tie.After-late)
-    → Chosen (entry (decision l).before).args.start (entry (decision l).before).args.end (entry (decision l).before).args.rows.now (entry (decision l).before).args.seeds.now (length (entry (decision l).before).args.w.now) (entry (decision l).before).args.n (spanned (decision l).before) (decision l).decide.new.0 (decision l).decide.result (entry (decision l).before).args.limit (entry (decision l).before).args.out.now l.late.result
+tried : (l : tie.After-late-k)
+    → Chosen (entry (decision l).before).args.start (entry (decision l).before).args.end (entry (decision l).before).args.rows.now (entry (decision l).before).args.seeds.now (length (entry (decision l).before).args.w.now) (entry (decision l).before).args.n (spanned (decision l).before) (decision l).decide-d.new.w (decision l).decide-d.result (entry (decision l).before).args.limit (entry (decision l).before).args.out.now l.late-k.result
 tried l =
     let d = decision l in
     let c = d.before in
-    chosen (entry c).pre c.before.before.before.before.before.Span-of.ensures c.before.before.before.put-rows.ensures d.decide.kept.0 d.decide.ensures l.late.ensures
+    chosen (entry c).requires c.span_of-span.ensures c.put_rows.ensures d.decide-d.auto.w d.decide-d.ensures l.late-k.ensures
 
 pub planned_rows_spec : {M : Type 1} → statement M
 unfolding planned_of
@@ -31,16 +31,14 @@ planned_rows_spec =
     tie.close
     (tie.spec
     (λ c κs. let s = c.before.before.before.before in coverage _ _ _ _ _ s.args.w.now s.requires)
-    (λ c κs. seedable _ _ _ _ _ _ c.before.before.before.before.before.before.requires)
-    (λ c κs. (_, _, seeded _ _ _ _ _ _ (entry c).requires _ c.before.before.before.before.before.Span-of.ensures _ c.before.before.before.put-rows.ensures))
+    (λ c κs. seedable _ _ _ _ _ _ c.requires)
+    (λ c κs. (_, _, seeded _ _ _ _ _ _ (entry c).requires _ c.span_of-span.ensures _ c.put_rows.ensures))
     (λ c. search rules)
     (λ c. search rules)
-    (λ c. late-refused (tried c.before) c.if1.true)
-    (λ c κs. let e = c.before.before in body_writable (tried e.before) e.if1.false)
-    (λ c κs. let e = c.before.before.before.before.before in body-small (tried e.before) e.if1.false)
+    (λ c. late-refused (tried c.before) c.if-k-ne0.true)
+    (λ c κs. body_writable (tried c.before.before.before.before) c.if-k-ne0.false)
+    (λ c κs. body-small (tried c.before.before.before.before.before.before.before) c.if-k-ne0.false)
     (λ c. search rules)
     (λ c. search rules)
     (λ c.
-    let b = c.before.before.before in
-    let e = b.before.before.before in
-    body-planned (tried e.before) e.if1.false c.made.ensures b.body-rows.ensures))
+    body-planned (tried c.before.before.before.before.before.before.before.before) c.if-k-ne0.false c.made.ensures c.body_rows.ensures))

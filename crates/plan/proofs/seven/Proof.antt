@@ -7,4 +7,4 @@ use Rattle.plan.proofs.seven.Tie as tie
 
 pub seven_spec : {M : Type 1} → statement M
 unfolding pick
-seven_spec = tie.close (tie.spec (λ c. rw (lt-leb _ _ c.if1.true)) (λ c. rw (le-leb _ _ c.if1.false)))
+seven_spec = tie.close (tie.spec (λ c. rw (lt-leb _ _ c.if-room-bytes.true)) (λ c. rw (le-leb _ _ c.if-room-bytes.false)))

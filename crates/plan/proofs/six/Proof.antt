@@ -10,6 +10,6 @@ unfolding pick both
 six_spec =
     tie.close
     (tie.spec
-    (λ c. rw (lt-leb _ _ c.if1.true))
-    (λ c. rw (le-leb _ _ c.before.if1.false, lt-leb _ _ c.if2.true))
-    (λ c. rw (le-leb _ _ c.before.if1.false, le-leb _ _ c.if2.false)))
+    (λ c. rw (lt-leb _ _ c.if-limit-bytes.true))
+    (λ c. rw (le-leb _ _ c.if-limit-bytes.false, lt-leb _ _ c.if-bytes-gt65535.true))
+    (λ c. rw (le-leb _ _ c.if-limit-bytes.false, le-leb _ _ c.if-bytes-gt65535.false)))

@@ -12,19 +12,19 @@ unfolding choice_key
 wins_spec =
     tie.close
     (tie.spec
-    (λ c. sym (lex_differ _ _ _ _ c.before.before.if1.true))
-    (λ c. sym (lex-same _ _ _ _ c.before.if1.false ∙ lex_differ _ _ _ _ c.if2.true))
+    (λ c. sym (lex_differ _ _ _ _ c.if-segmented-whole.true))
+    (λ c. sym (lex-same _ _ _ _ c.if-segmented-whole.false ∙ lex_differ _ _ _ _ c.if-segments-ne1.true))
     (λ c.
     let d = c.before.before in
     let e = d.before.before.before in
-    sym (lex-same _ _ _ _ e.before.if1.false ∙ lex-same _ _ _ _ e.if2.false ∙ lex_differ _ _ _ _ d.if3.true))
+    sym (lex-same _ _ _ _ e.if-segmented-whole.false ∙ lex-same _ _ _ _ e.if-segments-ne1.false ∙ lex_differ _ _ _ _ d.if-segmented-whole-2.true))
     (λ c.
     let f = c.before.before in
     let d = f.before.before.before in
     let e = d.before.before.before in
-    sym (lex-same _ _ _ _ e.before.if1.false ∙ lex-same _ _ _ _ e.if2.false ∙ lex-same _ _ _ _ d.if3.false ∙ lex_differ _ _ _ _ f.if4.true))
+    sym (lex-same _ _ _ _ e.if-segmented-whole.false ∙ lex-same _ _ _ _ e.if-segments-ne1.false ∙ lex-same _ _ _ _ d.if-segmented-whole-2.false ∙ lex_differ _ _ _ _ f.if-segmented-whole-3.true))
     (λ c.
     let d = c.before.before.before in
     let e = d.before.before.before in
     let s = e.before.before.before.before in
-    sym (lex-same _ _ _ _ e.before.if1.false ∙ lex-same _ _ _ _ e.if2.false ∙ lex-same _ _ _ _ d.if3.false ∙ lex-same _ _ _ _ c.if4.false ∙ lex-one _ _ ∙ order_last _ _ s.requires)))
+    sym (lex-same _ _ _ _ e.if-segmented-whole.false ∙ lex-same _ _ _ _ e.if-segments-ne1.false ∙ lex-same _ _ _ _ d.if-segmented-whole-2.false ∙ lex-same _ _ _ _ c.if-segmented-whole-3.false ∙ lex-one _ _ ∙ order_last _ _ s.requires)))

@@ -10,5 +10,5 @@ count_seeds_spec =
     tie.close
     (tie.spec
     (λ c κs. search rules)
-    (λ c. rw (none-ends _ _ c.before.if1.true) c.count-windows.ensures)
-    (λ c. rw (given-ends _ _ c.if1.false)))
+    (λ c. rw (none-ends _ _ c.if-seeds-eq0.true) c.count_windows.ensures)
+    (λ c. rw (given-ends _ _ c.if-seeds-eq0.false)))

@@ -7,18 +7,18 @@ use Rattle.seeds.proofs.Windows.{Counting, counting_start, counting_next, counti
 use Rattle.seeds.proofs.count_windows16.Statement.{statement}
 use Rattle.seeds.proofs.count_windows16.Tie as tie
 
-abbrev invariant-loop : tie.invariant-loop
-invariant-loop ordinals n₀ i₀ n i = Counting ordinals n i
+abbrev invariant-loop-i : tie.invariant-loop-i
+invariant-loop-i ordinals n₀ i₀ n i = Counting ordinals n i
 
-abbrev decreases-loop : tie.decreases-loop
-decreases-loop ordinals n₀ i₀ n i = length ordinals - i
+abbrev decreases-loop-i : tie.decreases-loop-i
+decreases-loop-i ordinals n₀ i₀ n i = length ordinals - i
 
 pub count_windows16_spec : {M : Type 1} → statement M
 count_windows16_spec =
     tie.close
     (tie.spec
-    invariant-loop
-    decreases-loop
+    invariant-loop-i
+    decreases-loop-i
     (λ c. counting_start _)
     (λ c. search rules)
     (λ c. search rules)
@@ -33,5 +33,5 @@ count_windows16_spec =
     (λ c. search rules)
     (λ c.
     let turn = c.before.before.before.before in
-    counting_next _ _ _ _ turn.before.loop.invariant turn.loop-test.true _ c.before.together16.ensures c.one-unless.ensures.0 c.one-unless.ensures.1)
-    (λ c. counting_end _ _ _ c.before.loop.invariant c.loop-test.false))
+    counting_next _ _ _ _ turn.loop-i.invariant turn.loop-i-test.true _ c.together16.ensures c.one_unless-n.ensures.0 c.one_unless-n.ensures.1)
+    (λ c. counting_end _ _ _ c.loop-i.invariant c.loop-i-test.false))

@@ -14,6 +14,6 @@ unfolding coverage_fits both
 covers_spec =
     tie.close
     (tie.spec
-    (λ c. sym (both_first _ _ (le-ltb _ _ c.if1.true)))
+    (λ c. sym (both_first _ _ (le-ltb _ _ c.if-end-start.true)))
     (λ c. search rules)
-    (λ c. rw (lt-ltb _ _ c.if1.false)))
+    (λ c. rw (lt-ltb _ _ c.if-end-start.false)))

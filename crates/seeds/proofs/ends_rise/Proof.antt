@@ -15,4 +15,4 @@ ends_rise_spec =
     (λ c. search rules)
     (λ c κs. search rules)
     (λ c κs. search rules)
-    (λ c. ends_tested _ _ _ _ c.before.wide.ensures.0 c.rises16.ensures))
+    (λ c. ends_tested _ _ _ _ c.wide-last.ensures.0 c.rises16.ensures))

@@ -10,6 +10,6 @@ pub given_fit_spec : {M : Type 1} → statement M
 given_fit_spec =
     tie.close
     (tie.spec
-    (λ c. sym (none-fit _ _ c.if1.true))
+    (λ c. sym (none-fit _ _ c.if-seeds-eq0.true))
     (λ c κs. search rules)
-    (λ c. c.seeds-fit.ensures ∙ sym (given-fit _ _ c.before.if1.false)))
+    (λ c. c.seeds_fit.ensures ∙ sym (given-fit _ _ c.if-seeds-eq0.false)))

@@ -12,5 +12,5 @@ last_test_spec =
     tie.close
     (tie.spec
     (λ c. search rules)
-    (λ c. (sym (pick_true 0 5 (le-leb _ _ c.if1.true)), refl))
-    (λ c. (sym (pick_false 0 5 (lt-leb _ _ c.if1.false)), refl)))
+    (λ c. (sym (pick_true 0 5 (le-leb _ _ c.if-seeds-words.true)), refl))
+    (λ c. (sym (pick_false 0 5 (lt-leb _ _ c.if-seeds-words.false)), refl)))

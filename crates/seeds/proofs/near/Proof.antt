@@ -17,6 +17,6 @@ near_spec =
     (λ c. search rules)
     (λ c. search rules)
     (λ c. search rules)
-    (λ c. let s = c.before.before.before.args in near-low s.rows.now s.a s.b c.if1.true)
+    (λ c. let s = c.args in near-low s.rows.now s.a s.b c.if-last-first.true)
     (λ c. search rules)
     (λ c. refl))

@@ -7,4 +7,4 @@ use Rattle.seeds.proofs.one_unless.Statement.{statement}
 use Rattle.seeds.proofs.one_unless.Tie as tie
 
 pub one_unless_spec : {M : Type 1} → statement M
-one_unless_spec = tie.close (tie.spec (λ c. (sym (pick_true 0 1 c.if1.true), omega arith)) (λ c. (sym (pick_false 0 1 c.if1.false), omega arith)))
+one_unless_spec = tie.close (tie.spec (λ c. (sym (pick_true 0 1 c.if-t.true), omega arith)) (λ c. (sym (pick_false 0 1 c.if-t.false), omega arith)))

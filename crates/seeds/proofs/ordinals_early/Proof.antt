@@ -6,7 +6,7 @@ use Prim.Native.Nat.{ℕ}
 use native.Mathlib.Omega.{arith}
 use borrow.Author.Rules.{rules}
 use lib.ListN.{length}
-use Rattle.model.proofs.Counted.{met, missed}
+use Rattle.model.proofs.Counted.{test_holds, test_fails}
 use Rattle.gather_core.specs.Seeds.{windows}
 use Rattle.planning.specs.Refusals.{count_fits, ends_of}
 use Rattle.seeds.proofs.Ends.{none-fit, none-ends}
@@ -24,28 +24,28 @@ ordinals_early_spec =
     tie.close
     (tie.spec
     (λ c κs. search rules)
-    (λ c. fails_1 _ _ _ _ _ _ (ordinals-none _ c.before.if1.true) c.refused.ensures)
+    (λ c. fails_1 _ _ _ _ _ _ (ordinals-none _ c.if-count-eq0.true) c.refused.ensures)
     (λ c κs. search rules)
     (λ c κs. search rules)
     (λ c.
     let e1 = c.before.before.before in
-    fails_2 _ _ _ _ _ _ (ordinals-some e1.before.before.args.count e1.if1.false (omega arith)) (missed c.before.before.count-fits.ensures c.before.if2.true) c.refused2.ensures)
-    (λ c κs. (count-some c.before.before.before.before.args.ordinals.now (met c.before.count-fits.ensures c.if2.false)).0)
+    fails_2 _ _ _ _ _ _ (ordinals-some e1.args.count e1.if-count-eq0.false (omega arith)) (test_fails c.count_fits.ensures c.if-not-count_fits.true) c.refused-then-not-count_fits.ensures)
+    (λ c κs. (count-some c.args.ordinals.now (test_holds c.count_fits.ensures c.if-not-count_fits.false)).0)
     (λ c κs. search rules)
     (λ c.
     let e2 = c.before.before.before in
     let e1 = e2.before.before in
-    fails_3 _ _ _ _ _ _ (ordinals-some e1.before.before.args.count e1.if1.false (omega arith)) (met e2.before.count-fits.ensures e2.if2.false) (missed c.before.before.ordinals-fit.ensures c.before.if3.true) c.refused3.ensures)
+    fails_3 _ _ _ _ _ _ (ordinals-some e1.args.count e1.if-count-eq0.false (omega arith)) (test_holds e2.count_fits.ensures e2.if-not-count_fits.false) (test_fails c.ordinals_fit.ensures c.if-not-ordinals_fit.true) c.refused-then-not-ordinals_fit.ensures)
     (λ c κs.
     let e2 = c.before.before in
-    (count-some e2.before.before.before.before.args.ordinals.now (met e2.before.count-fits.ensures e2.if2.false)).0)
+    (count-some e2.args.ordinals.now (test_holds e2.count_fits.ensures e2.if-not-count_fits.false)).0)
     (λ c κs.
     let e2 = c.before.before.before in
-    let rows = e2.before.before.before.before.args.ordinals.now in
-    rw (counted rows _ c.count-windows16.ensures) (seeds-few rows [] (met e2.before.count-fits.ensures e2.if2.false) (none-fit rows [] refl)))
+    let rows = e2.args.ordinals.now in
+    rw (counted rows _ c.count_windows16.ensures) (seeds-few rows [] (test_holds e2.count_fits.ensures e2.if-not-count_fits.false) (none-fit rows [] refl)))
     (λ c.
     let e3 = c.before.before in
     let e2 = e3.before.before in
     let e1 = e2.before.before in
-    let rows = e1.before.before.args.ordinals.now in
-    last_judges _ _ _ _ _ _ (ordinals-some e1.before.before.args.count e1.if1.false (omega arith)) (met e2.before.count-fits.ensures e2.if2.false) (met e3.before.ordinals-fit.ensures e3.if3.false) (none-fit rows [] refl) _ (counted rows _ c.before.count-windows16.ensures) c.last-test.ensures.0 c.last-test.ensures.1))
+    let rows = e1.args.ordinals.now in
+    last_judges _ _ _ _ _ _ (ordinals-some e1.args.count e1.if-count-eq0.false (omega arith)) (test_holds e2.count_fits.ensures e2.if-not-count_fits.false) (test_holds e3.ordinals_fit.ensures e3.if-not-ordinals_fit.false) (none-fit rows [] refl) _ (counted rows _ c.count_windows16.ensures) c.last_test.ensures.0 c.last_test.ensures.1))

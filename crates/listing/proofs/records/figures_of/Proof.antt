@@ -15,5 +15,5 @@ figures_of_spec =
     (tie.spec
     (λ c. search rules)
     (λ c. refl)
-    (λ c. let e : c.before.args.span - c.before.args.rows ≡ 0 = omega arith in
+    (λ c. let e : c.args.span - c.args.rows ≡ 0 = omega arith in
     rw e))

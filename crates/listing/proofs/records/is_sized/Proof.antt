@@ -12,5 +12,5 @@ unfolding sized both
 is_sized_spec =
     tie.close
     (tie.spec
-    (λ c. rw (lt-leb 5 c.before.args.n (omega arith)))
-    (λ c. rw (le-leb 5 c.before.args.n (omega arith))))
+    (λ c. rw (lt-leb 5 c.args.n (omega arith)))
+    (λ c. rw (le-leb 5 c.args.n (omega arith))))

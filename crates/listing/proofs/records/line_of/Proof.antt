@@ -13,8 +13,8 @@ use Rattle.listing.proofs.records.line_of.Statement.{statement}
 use Rattle.listing.proofs.records.line_of.Tie as tie
 
 -- a record's bytes have room for tag and span, and the body's length fits
-bounds : (c : tie.Then1) → Sized (length c.before.before.before.args.b.now)
-bounds c = sized_bounds _ (sym c.before.is-sized.ensures ∙ c.if1.true)
+bounds : (c : tie.Then-is_sized) → Sized (length c.args.b.now)
+bounds c = sized_bounds _ (sym c.is_sized.ensures ∙ c.if-is_sized.true)
 
 pub line_of_spec : {M : Type 1} → statement M
 unfolding line_of pick
@@ -32,7 +32,7 @@ line_of_spec =
     (λ c κs. search rules)
     (λ c κs. search rules)
     (λ c.
-    let fits = sym c.before.before.before.before.before.before.is-sized.ensures ∙ c.before.before.before.before.before.if1.true in
-    let body = tail_is 5 c.before.before.before.before.before.before.before.before.args.b.now in
-    rw (fits, length-drop, ← c.before.before.before.big32.ensures) (c.answered.ensures ∙ ap (answer_line _ _ _) (c.before.validate.ensures ∙ ap (validate_of _ _) body)))
-    (λ c. rw (sym c.before.is-sized.ensures ∙ c.if1.false)))
+    let fits = sym c.is_sized.ensures ∙ c.if-is_sized.true in
+    let body = tail_is 5 c.args.b.now in
+    rw (fits, length-drop, ← c.big32-span.ensures) (c.answered.ensures ∙ ap (answer_line _ _ _) (c.validate.ensures ∙ ap (validate_of _ _) body)))
+    (λ c. rw (sym c.is_sized.ensures ∙ c.if-is_sized.false)))

@@ -15,6 +15,6 @@ next_after_spec =
     tie.close
     (tie.spec
     (λ c κs. search rules)
-    (λ c. let a = c.before.before.before.args in rw (sym c.before.before.is-sized.ensures ∙ c.before.if1.true, lt-ltb a.have a.n (omega arith)))
-    (λ c. let a = c.before.before.before.args in rw (sym c.before.before.is-sized.ensures ∙ c.before.if1.true, le-ltb a.have a.n (omega arith)))
-    (λ c. rw (sym c.before.is-sized.ensures ∙ c.if1.false)))
+    (λ c. let a = c.args in rw (sym c.is_sized.ensures ∙ c.if-is_sized.true, lt-ltb a.have a.n (omega arith)))
+    (λ c. let a = c.args in rw (sym c.is_sized.ensures ∙ c.if-is_sized.true, le-ltb a.have a.n (omega arith)))
+    (λ c. rw (sym c.is_sized.ensures ∙ c.if-is_sized.false)))

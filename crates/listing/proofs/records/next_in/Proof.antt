@@ -12,9 +12,9 @@ unfolding next_of pick
 next_in_spec =
     tie.close
     (tie.spec
-    (λ c. rw (lt-ltb _ _ c.if1.true))
+    (λ c. rw (lt-ltb _ _ c.if-b-lt4.true))
     (λ c. search rules)
     (λ c κs. search rules)
     (λ c. search rules)
     (λ c κs. search rules)
-    (λ c. rw (le-ltb _ _ c.before.before.if1.false, ← c.before.big32.ensures) c.next-after.ensures))
+    (λ c. rw (le-ltb _ _ c.if-b-lt4.false, ← c.big32.ensures) c.next_after.ensures))

@@ -11,7 +11,7 @@ put_decimal_spec =
     tie.close
     (tie.spec
     (λ c κs. search rules)
-    (λ c κs. omega (arith, decimal-short c.before.before.before.args.v))
-    (λ c. omega (arith, decimal-short c.before.before.before.before.before.before.args.v))
+    (λ c κs. omega (arith, decimal-short c.args.v))
+    (λ c. omega (arith, decimal-short c.args.v))
     (λ c. search rules)
-    (λ c. decimal-put _ c.before.before.before.before.width.ensures c.before.before.put-places.ensures))
+    (λ c. decimal-put _ c.width-n.ensures c.put_places.ensures))

@@ -24,8 +24,8 @@ put_figures_spec =
     (λ c κs. search rules)
     (λ c. search rules)
     (λ c.
-    let tag = c.before.before.before.before.before.before.before.before.before.before.before.before.before.before.before.before.before.before.before.before.before.before.put-spaced.ensures in
-    let span = c.before.before.before.before.before.before.before.before.before.before.before.before.before.before.before.before.before.put-spaced2.ensures in
-    let rows = c.before.before.before.before.before.before.before.before.before.before.before.before.put-spaced3.ensures in
-    let holes = c.before.before.before.before.before.before.before.put-spaced4.ensures in
-    rw append-nil (put_then tag (put_then span (put_then rows (put_then holes c.before.before.put-spaced5.ensures))))))
+    let tag = c.put_spaced-tag.ensures in
+    let span = c.put_spaced-span.ensures in
+    let rows = c.put_spaced-rows.ensures in
+    let holes = c.put_spaced-holes.ensures in
+    rw append-nil (put_then tag (put_then span (put_then rows (put_then holes c.put_spaced.ensures))))))

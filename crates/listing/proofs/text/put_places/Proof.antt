@@ -5,24 +5,24 @@ use Rattle.listing.proofs.Spelling.{Placing, placing_start, placing_next, placin
 use Rattle.listing.proofs.text.put_places.Statement.{statement}
 use Rattle.listing.proofs.text.put_places.Tie as tie
 
-abbrev invariant-loop : tie.invariant-loop
-invariant-loop out₀ at n v left₀ rest₀ out left rest = Placing out₀ at n v out left rest
+abbrev invariant-loop-left : tie.invariant-loop-left
+invariant-loop-left out₀ at n v left₀ rest₀ out left rest = Placing out₀ at n v out left rest
 
-abbrev decreases-loop : tie.decreases-loop
-decreases-loop out₀ at n v left₀ rest₀ out left rest = left
+abbrev decreases-loop-left : tie.decreases-loop-left
+decreases-loop-left out₀ at n v left₀ rest₀ out left rest = left
 
 pub put_places_spec : {M : Type 1} → statement M
 put_places_spec =
     tie.close
     (tie.spec
-    invariant-loop
-    decreases-loop
+    invariant-loop-left
+    decreases-loop-left
     (λ c. placing_start _ _ _ _)
     (λ c. search rules)
     (λ c κs. search rules)
     (λ c. search rules)
     (λ c. search rules)
     (λ c. search rules)
-    (λ c. placing_next c.before.before.loop.invariant c.before.loop-test.true c.digit.ensures)
+    (λ c. placing_next c.loop-left.invariant c.loop-left-test.true c.digit.ensures)
     (λ c. search rules)
-    (λ c. placing_end c.before.loop.invariant c.loop-test.false))
+    (λ c. placing_end c.loop-left.invariant c.loop-left-test.false))

@@ -14,5 +14,5 @@ put_spaced_spec =
     (λ c. search rules)
     (λ c. search rules)
     (λ c κs. rw length-set (omega arith))
-    (λ c. simp length-set at c.before.before.put-decimal.auto.0)
-    (λ c. put_front c.before.before.put-decimal.ensures))
+    (λ c. simp length-set at c.put_decimal.auto.out)
+    (λ c. put_front c.put_decimal.ensures))

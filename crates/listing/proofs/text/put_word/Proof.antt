@@ -7,25 +7,25 @@ use Prim.Native.Nat.{◌-◌}
 use Rattle.listing.proofs.text.put_word.Statement.{statement}
 use Rattle.listing.proofs.text.put_word.Tie as tie
 
-abbrev invariant-loop : tie.invariant-loop
-invariant-loop out₀ at word n i₀ out i = Copying out₀ at word out i
+abbrev invariant-loop-i : tie.invariant-loop-i
+invariant-loop-i out₀ at word n i₀ out i = Copying out₀ at word out i
 
-abbrev decreases-loop : tie.decreases-loop
-decreases-loop out₀ at word n i₀ out i = length word - i
+abbrev decreases-loop-i : tie.decreases-loop-i
+decreases-loop-i out₀ at word n i₀ out i = length word - i
 
 pub put_word_spec : {M : Type 1} → statement M
 put_word_spec =
     tie.close
     (tie.spec
-    invariant-loop
-    decreases-loop
+    invariant-loop-i
+    decreases-loop-i
     (λ c. search rules)
     (λ c. search rules)
     (λ c. search rules)
     (λ c. search rules)
     (λ c. search rules)
     (λ c. search rules)
-    (λ c. copying_next c.before.before.loop.invariant c.before.loop-test.true)
+    (λ c. copying_next c.loop-i.invariant c.loop-i-test.true)
     (λ c. search rules)
     (λ c. search rules)
-    (λ c. copying_end c.before.loop.invariant c.loop-test.false))
+    (λ c. copying_end c.loop-i.invariant c.loop-i-test.false))

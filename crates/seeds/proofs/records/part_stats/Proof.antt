@@ -15,5 +15,5 @@ part_stats_spec =
     (λ c. search rules)
     (λ c. search rules)
     (λ c. search rules)
-    (λ c κs. part-covered _ _ _ _ c.before.before.requires)
-    (λ c. c.rows-stats.ensures ∙ ap stats_of (part_positions _ _ _ _)))
+    (λ c κs. part-covered _ _ _ _ c.requires)
+    (λ c. c.rows_stats.ensures ∙ ap stats_of (part_positions _ _ _ _)))

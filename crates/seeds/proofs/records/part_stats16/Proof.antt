@@ -16,7 +16,7 @@ part_stats16_spec =
     (λ c. search rules)
     (λ c. search rules)
     (λ c. search rules)
-    (λ c κs. part-few _ _ _ _ c.before.before.requires)
+    (λ c κs. part-few _ _ _ _ c.requires)
     (λ c.
-    let xs = c.before.before.before.args.ordinals.now in
-    c.ordinals-stats.ensures ∙ ap stats_of (sym (positions_zero _) ∙ part_positions 0 xs _ _)))
+    let xs = c.args.ordinals.now in
+    c.ordinals_stats.ensures ∙ ap stats_of (sym (positions_zero _) ∙ part_positions 0 xs _ _)))

@@ -10,9 +10,9 @@ pub seed_end_spec : {M : Type 1} → statement M
 seed_end_spec =
     tie.close
     (tie.spec
-    (λ c κs. begun-inside _ _ _ _ c.before.before.before.requires)
-    (λ c. window_ends _ _ _ _ c.before.before.before.before.requires c.before.if1.true _ c.window-end.ensures)
-    (λ c. omega (arith, given_inside _ _ _ _ c.before.before.before.requires c.if1.false))
-    (λ c. given_inside _ _ _ _ c.before.before.before.before.requires c.before.if1.false)
+    (λ c κs. begun-inside _ _ _ _ c.requires)
+    (λ c. window_ends _ _ _ _ c.requires c.if-seeds-eq0.true _ c.window_end.ensures)
+    (λ c. omega (arith, given_inside _ _ _ _ c.requires c.if-seeds-eq0.false))
+    (λ c. given_inside _ _ _ _ c.requires c.if-seeds-eq0.false)
     (λ c κs. search rules)
-    (λ c. given-end _ _ _ _ c.before.before.before.before.before.requires c.before.before.if1.false _ c.wide.ensures.0))
+    (λ c. given-end _ _ _ _ c.requires c.if-seeds-eq0.false _ c.wide.ensures.0))

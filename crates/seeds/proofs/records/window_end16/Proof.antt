@@ -8,30 +8,30 @@ use Rattle.seeds.proofs.Windows.{Walking, walking_start, walking_next, walking_s
 use Rattle.seeds.proofs.records.window_end16.Statement.{statement}
 use Rattle.seeds.proofs.records.window_end16.Tie as tie
 
-abbrev invariant-loop : tie.invariant-loop
-invariant-loop ordinals a j₀ j = Walking ordinals a j
+abbrev invariant-loop-j : tie.invariant-loop-j
+invariant-loop-j ordinals a j₀ j = Walking ordinals a j
 
-abbrev decreases-loop : tie.decreases-loop
-decreases-loop ordinals a j₀ j = length ordinals - j
+abbrev decreases-loop-j : tie.decreases-loop-j
+decreases-loop-j ordinals a j₀ j = length ordinals - j
 
 pub window_end16_spec : {M : Type 1} → statement M
 window_end16_spec =
     tie.close
     (tie.spec
-    invariant-loop
-    decreases-loop
+    invariant-loop-j
+    decreases-loop-j
     (λ c. search rules)
-    (λ c. walking_start _ _ c.before.requires)
+    (λ c. walking_start _ _ c.requires)
     (λ c. search rules)
     (λ c. search rules)
     (λ c. search rules)
     (λ c. search rules)
     (λ c. search rules)
     (λ c κs. search rules)
-    (λ c. let turn = c.before.before.before.before in walking_stop _ _ _ turn.before.loop.invariant _ c.before.together16.ensures (not-true _ c.if1.true))
+    (λ c. let turn = c.before.before.before.before in walking_stop _ _ _ turn.loop-j.invariant _ c.together16.ensures (c.if-not-together16.true))
     (λ c. search rules)
     (λ c. search rules)
     (λ c.
     let turn = c.before.before.before.before in
-    walking_next _ _ _ turn.before.loop.invariant _ c.before.together16.ensures turn.loop-test.true (not-false _ c.if1.false))
-    (λ c. walking_end _ _ _ c.before.loop.invariant c.loop-test.false))
+    walking_next _ _ _ turn.loop-j.invariant _ c.together16.ensures turn.loop-j-test.true (c.if-not-together16.false))
+    (λ c. walking_end _ _ _ c.loop-j.invariant c.loop-j-test.false))
