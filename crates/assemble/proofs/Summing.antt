@@ -9,7 +9,7 @@ use native.Mathlib.Omega.{arith}
 use lib.ListN.{length, length-append}
 use borrow.Author.Tests.{le-leb, lt-leb}
 use Rattle.model.proofs.Tests.{pick_true, pick_false, order}
-use Rattle.model.specs.Lists.{Rising, none}
+use Rattle.model.specs.Lists.{Rising}
 use Rattle.model.proofs.Rising.{rising-append, rising_split}
 use Rattle.stats.specs.declared.Stats.{Stats}
 use Rattle.stats.specs.Statistics.{stats_of, span_of, holes_of, Sound}

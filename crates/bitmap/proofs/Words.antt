@@ -1,7 +1,7 @@
 -- The words of a bitmap and the number that they make: rows counted word by word, and the rows from a place on.
 -- Assumes nothing.
 use Rattle.std.proofs.Common.{◌≡◌, ℕ, ◌+◌, ◌-◌, ◌*◌, ◌/◌, ◌%◌, ◌^◌, ◌<◌, ◌≤◌, min, List, ◌++◌, length, sym, ap, ◌∙◌, ⊎_elim, zero-add, arith, length-append, shr-shr}
-use Rattle.fields.specs.Le.{Bytes, le}
+use Rattle.fields.specs.Le.{Bytes}
 use Rattle.fields.proofs.Binary.{le_lt, le-high, le_low}
 use Rattle.model.proofs.Tests.{order}
 use Rattle.word.specs.Bits.{bits_from, bits_of}

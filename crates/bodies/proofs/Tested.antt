@@ -1,10 +1,10 @@
 -- What the code tests is what `Accepted` asks: a body of one local form is tested by the view that its header gives.
 -- Assumes nothing.
-use mathlib.Core.Path.{◌≡◌, refl, sym, ap, ◌∙◌}
+use mathlib.Core.Path.{◌≡◌, refl, sym, ◌∙◌}
 use mathlib.Core.Bool.{Bool, true, false, false≢true}
 use mathlib.Core.Logic.{⊎_elim}
 use mathlib.Core.List.{List}
-use Prim.Native.Nat.{ℕ, ◌+◌, ◌-◌, ◌*◌, ◌/◌, ◌<◌, ◌≤◌}
+use Prim.Native.Nat.{ℕ, ◌+◌, ◌-◌, ◌*◌, ◌/◌, ◌≤◌}
 use native.Mathlib.Nat.{mul-div_cancel}
 use native.Mathlib.Omega.{arith}
 use lib.Dec.{eqb, leb}
@@ -12,9 +12,8 @@ use lib.ListN.{length, get_or, drop, length-drop}
 use borrow.Author.Tests.{eq-eqb, ne_eqb, le-leb, eqb-true, eqb-false, leb-true, leb-false}
 use Rattle.fields.specs.Le.{le, width_of}
 use Rattle.model.specs.Tests.{both, pick}
-use Rattle.model.specs.Lists.{has, counted}
 use Rattle.model.proofs.Tests.{either, same_test, refuse, both_true, both_left, both_right, pick_true, pick_false}
-use Rattle.model.proofs.Counted.{Count, counted-count}
+use Rattle.model.proofs.Counted.{counted-count}
 use Rattle.runs.specs.Runs.{run_count, runs_accepts}
 use Rattle.bitmap.specs.Body.{bitmap_accepts, bitmap_names}
 use Rattle.forms.specs.Forms.{by_tag, list_tag, runs_tag, local_accepts, local_names}

@@ -3,7 +3,7 @@
 use mathlib.Core.Path.{◌≡◌, refl}
 use mathlib.Core.Bool.{Bool, true, false}
 use mathlib.Core.List.{List, [], ◌∷◌, ◌++◌}
-use Prim.Native.Nat.{ℕ, ◌+◌, ◌-◌, ◌*◌}
+use Prim.Native.Nat.{ℕ, ◌+◌, ◌*◌}
 use Rattle.model.specs.Tests.{pick, tabulate}
 use Rattle.model.specs.Lists.{range, onto, runs_of, positions_of}
 use Rattle.stats.specs.declared.Stats.{Stats}

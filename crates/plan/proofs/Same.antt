@@ -4,7 +4,7 @@ use mathlib.Core.Path.{◌≡◌, ap}
 use mathlib.Core.List.{List}
 use Prim.Native.Nat.{ℕ}
 use native.Mathlib.Omega.{arith}
-use lib.ListN.{length, get_or}
+use lib.ListN.{get_or}
 use Rattle.model.specs.Answers.{Answer}
 use Rattle.model.proofs.Answers.{same_number, same_size}
 use Rattle.plan.specs.declared.Body.{Body}

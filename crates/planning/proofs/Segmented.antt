@@ -6,12 +6,12 @@ use mathlib.Core.List.{List}
 use Prim.Native.Nat.{ℕ, suc, ◌+◌, ◌-◌, ◌<◌, ◌≤◌}
 use native.Mathlib.Omega.{arith}
 use lib.ListN.{length, get_or, length-append}
-use Rattle.model.specs.Tests.{pick, flat, total}
+use Rattle.model.specs.Tests.{flat, total}
 use Rattle.model.specs.Lists.{Rising, positions_of}
-use Rattle.model.proofs.Tests.{both_true, all_from, flat-same, flat_length_step}
+use Rattle.model.proofs.Tests.{flat-same, flat_length_step}
 use Rattle.model.proofs.Sums.{flat-total, total-within, total-le, total-same}
 use Rattle.model.proofs.Positions.{length_positions}
-use Rattle.model.proofs.Rising.{rising-from, rising-below, rising_strict, rising-room, rising_tests}
+use Rattle.model.proofs.Rising.{rising-from, rising-below, rising_strict, rising_tests}
 use Rattle.model.proofs.Pieces.{pieces_select, flat_length_le}
 use Rattle.single.specs.Layout.{first_of, extent_of}
 use Rattle.directory.specs.Directory.{directory_size}

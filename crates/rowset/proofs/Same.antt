@@ -4,7 +4,7 @@ use mathlib.Core.Path.{◌≡◌, refl, ap}
 use mathlib.Core.List.{List}
 use Prim.Native.Nat.{ℕ}
 use native.Mathlib.Omega.{arith}
-use lib.ListN.{length, get_or}
+use lib.ListN.{get_or}
 use Rattle.model.specs.Answers.{Answer}
 use Rattle.directory.specs.declared.Segment.{Segment}
 use Rattle.rowset.specs.Calls.{checked_of, ranked_of, selected_of, filled_of, values_of, entry_answer}

@@ -4,7 +4,7 @@ use Rattle.std.proofs.Common.{◌≡◌, ℕ, zero, suc, ◌+◌, ◌-◌, ◌%�
 use native.Mathlib.Nat.{sub-zero}
 use lib.Seq.{drop-append-add, drop-append-le}
 use Rattle.model.specs.Tests.{flat, total}
-use Rattle.model.specs.Lists.{Rising, below, place_of, walk_of, range, moved}
+use Rattle.model.specs.Lists.{Rising, place_of, walk_of, range, moved}
 use Rattle.model.proofs.Sums.{total-le, flat-total}
 use Rattle.model.proofs.Windows.{windows-apart, windows-level}
 use Rattle.model.proofs.Rising.{rising_wider}

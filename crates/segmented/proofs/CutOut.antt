@@ -6,7 +6,7 @@ use Rattle.fields.specs.Le.{width_of}
 use Rattle.model.specs.Tests.{pick, flat, total}
 use Rattle.model.specs.Lists.{Rising, shift}
 use Rattle.model.proofs.Tests.{both_true, all_from, flat-same}
-use Rattle.model.proofs.Sums.{flat-total, total-within}
+use Rattle.model.proofs.Sums.{flat-total}
 use Rattle.model.proofs.Rising.{rising-room, rising_wider}
 use Rattle.directory.specs.Directory.{entry_of, part_of, tag_at, span_at, count_at, is_local}
 use Rattle.directory.specs.declared.Segment as stated
@@ -16,7 +16,7 @@ use Rattle.forms.specs.RowSets.{RowSet}
 use Rattle.forms.proofs.Tags.{Other, local-cases, other_ne}
 use Rattle.forms.proofs.Laid.{LocalFits, fits-dense, fits-list, fits-runs, fits-bitmap, fits-missing, layout_accepts, layout_names}
 use Rattle.segmented.specs.Segmented.{part_accepts, part_names, segmented_accepts, segmented_names}
-use Rattle.segmented.specs.Cuts.{Segment, payload, SegmentFits, entries_for, cut_layout, cut_rows, CutFits}
+use Rattle.segmented.specs.Cuts.{Segment, payload, entries_for, cut_layout, cut_rows, CutFits}
 
 no_local : (tag : ℕ) → Other 7 tag → is_local tag ≡ false
 unfolding is_local pick

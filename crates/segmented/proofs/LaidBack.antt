@@ -3,20 +3,20 @@
 use Rattle.std.proofs.Common.{◌≡◌, ℕ, zero, suc, ◌+◌, ◌*◌, ◌<◌, ◌≤◌, true, List, ◌++◌, length, drop, sym, refl, ap, ◌∙◌, append_assoc, append-nil, arith, take-append-drop, drop-drop}
 use lib.Seq.{drop-length}
 use Rattle.fields.specs.Le.{le, digits, Bytes}
-use Rattle.fields.proofs.Laws.{le_bound, next_field, bytes_front, bytes_tail}
+use Rattle.fields.proofs.Laws.{le_bound, next_field}
 use Rattle.model.specs.Tests.{flat, total}
 use Rattle.model.proofs.Tests.{flat-same}
 use Rattle.model.proofs.Sums.{total-same}
 use Rattle.search.specs.Search.{entry}
 use Rattle.forms.proofs.Laws.{local-rising, local-length, local_layout_lem}
 use Rattle.forms.proofs.Bounds.{dense-all}
-use Rattle.directory.specs.Directory.{stated_count, stated_segments, start_at, span_at, count_at, ordinal_at, offset_at, length_at, tag_at, part_of, directory_size, end_before, rows_before, bytes_before, piece_of, names_of}
+use Rattle.directory.specs.Directory.{stated_segments, start_at, span_at, count_at, offset_at, length_at, tag_at, part_of, directory_size, end_before, rows_before, bytes_before, piece_of, names_of}
 use Rattle.directory.specs.Layout.{entry_layout, directory_layout}
 use Rattle.directory.proofs.Parts.{Directory}
 use Rattle.directory.proofs.Facts.{payload-length}
 use Rattle.segmented.specs.Segmented.{segmented_accepts, segmented_names, part_accepts, part_names}
 use Rattle.segmented.specs.Cuts.{Segment, payload, SegmentFits, entries_for, cut_layout, cut_rows, CutFits}
-use Rattle.segmented.proofs.Named.{directory_of, accepted_parts, part_bytes, segmented_length}
+use Rattle.segmented.proofs.Named.{directory_of, accepted_parts, part_bytes}
 
 -- segment i of a body, as its entry states it, with the rows that its part names
 abbrev pub segment_in : List ℕ → ℕ → Segment

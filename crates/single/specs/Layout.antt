@@ -1,6 +1,6 @@
 -- The bytes of a body of tags 1 to 8, from the rows: the header that document 01 gives each tag, and the local layout.
 -- Assumes nothing.
-use Rattle.std.specs.Prelude.{ℕ, suc, ◌+◌, ◌-◌, Bool, List, ◌++◌, length, ◌==◌, slice_index}
+use Rattle.std.specs.Prelude.{ℕ, suc, ◌-◌, Bool, List, ◌++◌, length, ◌==◌, slice_index}
 use Rattle.fields.specs.Le.{digits}
 use Rattle.model.specs.Tests.{pick}
 use Rattle.model.specs.Lists.{runs_of, positions_of}

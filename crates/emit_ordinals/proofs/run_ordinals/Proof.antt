@@ -3,7 +3,6 @@
 use mathlib.Core.Path.{sym, ◌∙◌}
 use native.Mathlib.Omega.{arith}
 use borrow.Author.Rules.{rules}
-use borrow.Author.Tests.{not-true, not-false}
 use Rattle.emit.proofs.Passing.{row_out}
 use Rattle.emit.proofs.Loops.{row_at}
 use Rattle.emit.proofs.Looking.{Part, spaced, onward_start, onward_upto, onward_run}

@@ -1,7 +1,6 @@
 -- `gather_core::early` meets its contract.
 -- Assumes nothing.
 use Rattle.std.proofs.Common.{rules}
-use borrow.Author.Tests.{not-true, not-false}
 use Rattle.model.specs.Tests.{pick}
 use Rattle.gather_core.specs.Gather.{early}
 use Rattle.gather_core.proofs.early.Statement.{statement}

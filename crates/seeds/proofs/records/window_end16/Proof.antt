@@ -2,7 +2,6 @@
 -- Assumes nothing.
 use Prim.Native.Nat.{◌-◌}
 use borrow.Author.Rules.{rules}
-use borrow.Author.Tests.{not-true, not-false}
 use lib.ListN.{length}
 use Rattle.seeds.proofs.Windows.{Walking, walking_start, walking_next, walking_stop, walking_end}
 use Rattle.seeds.proofs.records.window_end16.Statement.{statement}
