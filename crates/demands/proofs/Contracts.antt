@@ -5,7 +5,7 @@
 use mathlib.Core.List.{List, []}
 use Prim.Native.Nat.{ℕ}
 use contract.Lifetimes.{Lfts}
-use denote.Ref.{Bor}
+use denote.Ref.{Bor, MutBor}
 use Rattle.rowset.specs.declared.Checked.{Checked}
 use Rattle.rowset.specs.declared.Ranked.{Ranked}
 use Rattle.rowset.specs.declared.Selected.{Selected}
@@ -48,9 +48,12 @@ use Rattle.demands.proofs.One.{
   PlanDeletionsSays,
 }
 
--- a slice that is lent
+-- a slice that is lent to be read, and one that is lent to be changed
 abbrev Slice : Type 0
 Slice = Bor (List ℕ)
+
+abbrev MutSlice : Type 0
+MutSlice = MutBor (List ℕ)
 
 module _ (tag span : ℕ) (body : Slice) where
   pub validate_says : (κs : Lfts 1) (r : Checked) → validate.Learnt κs (tag, (span, (body, tt))) r (tag, (span, (body, tt))) → ValidateSays tag span body.now r
@@ -65,22 +68,22 @@ module _ (tag span : ℕ) (body : Slice) where
   pub segment_says : (κs : Lfts 1) (i : ℕ) (r : Entry) → segment.Learnt κs (tag, (span, (body, (i, tt)))) r (tag, (span, (body, (i, tt)))) → SegmentSays tag span body.now i r
   segment_says κs i r l = l
 
-  pub ranks_says : (κs : Lfts 3) (positions old left : Slice) (r : Filled)
+  pub ranks_says : (κs : Lfts 3) (positions : Slice) (old left : MutSlice) (r : Filled)
       → ranks.Learnt κs (tag, (span, (body, (positions, (old, tt))))) r (tag, (span, (body, (positions, (left, tt))))) → RanksSays tag span body.now positions.now old.now (r, left.now)
   ranks_says κs positions old left r l = l
 
-  pub walk_says : (κs : Lfts 2) (from : ℕ) (old left : Slice) (r : Filled)
+  pub walk_says : (κs : Lfts 2) (from : ℕ) (old left : MutSlice) (r : Filled)
       → walk.Learnt κs (tag, (span, (body, (from, (old, tt))))) r (tag, (span, (body, (from, (left, tt))))) → WalkSays tag span body.now from old.now (r, left.now)
   walk_says κs from old left r l = l
 
-module _ (g : Gatherer) (table left : Slice) (r : Gathered) where
+module _ (g : Gatherer) (table left : MutSlice) (r : Gathered) where
   pub gather_row_says : (κs : Lfts 1) (row : ℕ) → gather-row.Learnt κs (g, (table, (row, tt))) r (g, (left, (row, tt))) → GatherRowSays g table.now row (r, left.now)
   gather_row_says κs row l = l
 
   pub gather_page_says : (κs : Lfts 2) (rows : Slice) → gather-page.Learnt κs (g, (table, (rows, tt))) r (g, (left, (rows, tt))) → GatherPageSays g table.now rows.now (r, left.now)
   gather_page_says κs rows l = l
 
-module _ (limit : ℕ) (work out work' out' : Slice) where
+module _ (limit : ℕ) (work out work' out' : MutSlice) where
   pub plan_rows_says : (κs : Lfts 4) (start end : ℕ) (rows seeds : Slice) (r : Planned)
       → plan-rows.Learnt κs (start, (end, (rows, (seeds, (limit, (work, (out, tt))))))) r (start, (end, (rows, (seeds, (limit, (work', (out', tt)))))))
       → PlanSays start end rows.now seeds.now limit work.now out.now (r, (out'.now, work'.now))
@@ -104,6 +107,6 @@ module _ (rows limit : ℕ) (s : Section) (body : Slice) where
       → contains.Learnt κs (rows, (limit, (s, (body, (ordinal, tt))))) r (rows, (limit, (s, (body, (ordinal, tt))))) → ContainsSays rows limit s body.now ordinal r
   contains_says κs ordinal r l = l
 
-  pub walk_deletions_says : (κs : Lfts 2) (from : ℕ) (old left : Slice) (r : Filled)
+  pub walk_deletions_says : (κs : Lfts 2) (from : ℕ) (old left : MutSlice) (r : Filled)
       → walk-deletions.Learnt κs (rows, (limit, (s, (body, (from, (old, tt)))))) r (rows, (limit, (s, (body, (from, (left, tt)))))) → WalkDeletionsSays rows limit s body.now from old.now (r, left.now)
   walk_deletions_says κs from old left r l = l

@@ -3,7 +3,5 @@ pub mod Examples
 pub mod InTurn
 pub mod Taken
 pub mod Promised
-pub mod Walk
-pub mod Third
 pub mod Adds
 pub mod Lends

@@ -53,8 +53,8 @@ fn taken_apart(old: Gatherer, c: Gathered) -> Step
 
 // A row by every test in its order: the answer, and the record that it leaves.
 pub fn tested_row(g: Gatherer, table: &mut [u16], row: u64) -> Step
-    ensures after_value { added_answer result.answer result.after ≡ row_answer g (length table.old) row }
-    ensures after_value_2 { result.after ≡ row_record g (length table.old) row }
+    ensures answered { added_answer result.answer result.after ≡ row_answer g (length table.old) row }
+    ensures record_after { result.after ≡ row_record g (length table.old) row }
     ensures table_after { table.new ≡ row_table g table.old row }
 {
     taken_apart(g, gather_row(g, table, row))
@@ -62,8 +62,8 @@ pub fn tested_row(g: Gatherer, table: &mut [u16], row: u64) -> Step
 
 // A page by every test in its order.
 pub fn tested_page(g: Gatherer, table: &mut [u16], rows: &[u64]) -> Step
-    ensures after_value { added_answer result.answer result.after ≡ page_answer g (length table.old) rows.now }
-    ensures after_value_2 { result.after ≡ page_record g (length table.old) rows.now }
+    ensures answered { added_answer result.answer result.after ≡ page_answer g (length table.old) rows.now }
+    ensures record_after { result.after ≡ page_record g (length table.old) rows.now }
     ensures table_after { table.new ≡ page_table g table.old rows.now }
 {
     taken_apart(g, gather_page(g, table, rows))
@@ -85,8 +85,8 @@ fn copied(g: Gatherer) -> Gatherer
 // What `tested_row` does, with few tests for the rows that most rows are: those that go on in the last seed, and those that
 // begin another where there is room.
 fn row_step(g: Gatherer, table: &mut [u16], row: u64) -> Change
-    ensures after_value { added_answer result.answer result.after ≡ row_answer g (length table.old) row }
-    ensures after_value_2 { (result.after ≡ row_record g (length table.old) row) × (result.joined ≡ true → Joined g result) }
+    ensures answered { added_answer result.answer result.after ≡ row_answer g (length table.old) row }
+    ensures record_after { (result.after ≡ row_record g (length table.old) row) × (result.joined ≡ true → Joined g result) }
     ensures table_after { table.new ≡ row_table g table.old row }
 {
     match row_way(g, table.len(), row) {
@@ -110,8 +110,8 @@ fn row_step(g: Gatherer, table: &mut [u16], row: u64) -> Change
 
 // What `tested_page` does, with few tests for a page behind others, where there is an entry for each of its rows.
 fn page_step(g: Gatherer, table: &mut [u16], rows: &[u64]) -> Change
-    ensures after_value { added_answer result.answer result.after ≡ page_answer g (length table.old) rows.now }
-    ensures after_value_2 { (result.after ≡ page_record g (length table.old) rows.now) × (result.joined ≡ true → Joined g result) }
+    ensures answered { added_answer result.answer result.after ≡ page_answer g (length table.old) rows.now }
+    ensures record_after { (result.after ≡ page_record g (length table.old) rows.now) × (result.joined ≡ true → Joined g result) }
     ensures table_after { table.new ≡ page_table g table.old rows.now }
 {
     if goes_in(g, table.len(), rows) {
@@ -134,8 +134,8 @@ fn page_step(g: Gatherer, table: &mut [u16], rows: &[u64]) -> Change
 
 // One row more, into the lent record and the lent table; or a refusal, and both as they were.
 pub fn add_row(g: &mut Gatherer, table: &mut [u16], row: u64) -> Added
-    ensures g_after { added_answer result g.new ≡ row_answer g.old (length table.old) row }
-    ensures g_after_2 { g.new ≡ row_record g.old (length table.old) row }
+    ensures answered { added_answer result g.new ≡ row_answer g.old (length table.old) row }
+    ensures record_after { g.new ≡ row_record g.old (length table.old) row }
     ensures table_after { table.new ≡ row_table g.old table.old row }
 {
     let c = row_step(*g, table, row);
@@ -151,8 +151,8 @@ pub fn add_row(g: &mut Gatherer, table: &mut [u16], row: u64) -> Added
 
 // A page, into the lent record and the lent table; or a refusal, and both as they were.
 pub fn add_page(g: &mut Gatherer, table: &mut [u16], rows: &[u64]) -> Added
-    ensures g_after { added_answer result g.new ≡ page_answer g.old (length table.old) rows.now }
-    ensures g_after_2 { g.new ≡ page_record g.old (length table.old) rows.now }
+    ensures answered { added_answer result g.new ≡ page_answer g.old (length table.old) rows.now }
+    ensures record_after { g.new ≡ page_record g.old (length table.old) rows.now }
     ensures table_after { table.new ≡ page_table g.old table.old rows.now }
 {
     let c = page_step(*g, table, rows);
@@ -168,8 +168,8 @@ pub fn add_page(g: &mut Gatherer, table: &mut [u16], rows: &[u64]) -> Added
 
 // `add_row` on a local record: whoever calls this needs no proof by hand.
 pub fn lend_row(g: Gatherer, table: &mut [u16], row: u64) -> Step
-    ensures after_value { added_answer result.answer result.after ≡ row_answer g (length table.old) row }
-    ensures after_value_2 { result.after ≡ row_record g (length table.old) row }
+    ensures answered { added_answer result.answer result.after ≡ row_answer g (length table.old) row }
+    ensures record_after { result.after ≡ row_record g (length table.old) row }
     ensures table_after { table.new ≡ row_table g table.old row }
 {
     let mut h = g;
@@ -182,8 +182,8 @@ pub fn lend_row(g: Gatherer, table: &mut [u16], row: u64) -> Step
 
 // `add_page` on a local record.
 pub fn lend_page(g: Gatherer, table: &mut [u16], rows: &[u64]) -> Step
-    ensures after_value { added_answer result.answer result.after ≡ page_answer g (length table.old) rows.now }
-    ensures after_value_2 { result.after ≡ page_record g (length table.old) rows.now }
+    ensures answered { added_answer result.answer result.after ≡ page_answer g (length table.old) rows.now }
+    ensures record_after { result.after ≡ page_record g (length table.old) rows.now }
     ensures table_after { table.new ≡ page_table g table.old rows.now }
 {
     let mut h = g;

@@ -1,16 +1,8 @@
--- The number of an answer, and the contract of `number_of`.
+-- The number of an answer, and what a call on a lent record promises by its number.
 -- Assumes nothing.
 use mathlib.Core.Path.{◌≡◌, refl, ◌∙◌}
 use Prim.Native.Nat.{ℕ}
 use mathlib.Core.List.{List}
-use seplogic.Ra.Ura.{Ura}
-use base.Logic.{SProp}
-use prog.Memory.{Memory}
-use prog.Routine.{Routine}
-use types.Logic.{Logic}
-use contract.Monad.{Fun}
-use denote.Triple.Spec.{triple_of}
-use denote.Triple.Statement.{Contract}
 use Rattle.model.proofs.Answers.{same_number}
 use Rattle.gather_core.specs.declared.Gatherer.{Gatherer}
 use Rattle.gather.specs.declared.lent.Added.{Added}
@@ -18,7 +10,6 @@ use Rattle.gather.specs.declared.lent.Added.TheVariants.{Done, Refused}
 use Rattle.gather.specs.Records.{added_answer}
 use Rattle.gather.proofs.Promised.{Wanted, Said}
 use Rattle.pelisafu.specs.Shown.{number_of}
-use Rattle.pelisafu.specs.contracts.gathering.number_of as number_of_lem
 
 -- the number of what was added is the answer's
 pub number_is : (a : Added) (g : Gatherer) → number_of a ≡ (added_answer a g).number
@@ -32,7 +23,3 @@ Numbered w n g t = (n ≡ w.0.number) × ((g ≡ w.1.0) × (t ≡ w.1.1))
 
 pub numbered : (w : Wanted) (a : Added) (n : ℕ) (g : Gatherer) (t : List ℕ) → n ≡ number_of a → Said w a g t → Numbered w n g t
 numbered w a n g t f e = (f ∙ number_is a g ∙ same_number e.0, e.1)
-
--- the contract of `number_of`
-abbrev pub NumberOf : {M : Type 1} {𝓤 : Ura M} (𝓛 : Logic 𝓤) (mem : Memory → SProp 𝓤) (run : Routine → Fun 𝓤) → Contract 𝓤
-NumberOf 𝓛 mem run = triple_of 𝓛 number_of_lem.signature (number_of_lem.spec 𝓛 mem run)

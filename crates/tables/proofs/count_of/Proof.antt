@@ -15,5 +15,5 @@ count_of_spec =
     (tie.spec
     (λ c. search rules)
     (λ c. search rules)
-    (λ c. sym (ap (λ (a : Filled). written_in (filled_of a)) c.before.a.given.1))
-    (λ c. sym (ap (λ (a : Filled). written_in (filled_of a)) c.enum_told.given.1)))
+    (λ c. sym (ap (λ (a : Filled). written_in (filled_of a)) c.in-Written.is))
+    (λ c. sym (ap (λ (a : Filled). written_in (filled_of a)) c.in-Refused.is)))

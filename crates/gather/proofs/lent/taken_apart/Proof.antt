@@ -8,4 +8,4 @@ use Rattle.gather.proofs.lent.taken_apart.Tie as tie
 pub taken_apart_spec : {M : Type 1} → statement M
 unfolding step_of
 taken_apart_spec =
-    tie.close (tie.spec (λ c. search rules) (λ c. search rules) (λ c. rw c.c-1.given.1) (λ c. rw c.c-in-Refused-1.given.1))
+    tie.close (tie.spec (λ c. search rules) (λ c. search rules) (λ c. rw c.in-Record.is) (λ c. rw c.in-Refused.is))

@@ -1,12 +1,12 @@
 -- `gather::row_way` meets its contract.
 -- Assumes nothing.
 use mathlib.Core.Path.{◌≡◌, sym, ◌∙◌}
-use mathlib.Core.Logic.{⊎_elim}
 use native.Mathlib.Omega.{arith}
 use borrow.Author.Rules.{rules}
 use Rattle.gather_core.specs.Gather.{early, above, row_number, Follows}
 use Rattle.gather.specs.Records.{Leads}
 use Rattle.gather_core.proofs.Admitted.{Begins, first_refuses, goes_on_lem, elsewhere, first_row, begins, no_room, not_following, unmatched}
+use Rattle.gather.proofs.quick.row_way.Lts.{then-follows+else-row-g, else-follows+else-g-ne0+else-g-ne0-2}
 use Rattle.gather.proofs.quick.row_way.Statement.{statement}
 use Rattle.gather.proofs.quick.row_way.Tie as tie
 
@@ -21,10 +21,10 @@ refused c =
 -- the two ways of a row that begins a seed
 begun : (c : tie.Joined-follows) → let s = c.before.before in Begins s.args.g s.args.room s.args.row
 begun c =
-    ⊎_elim
-    (λ p. elsewhere _ _ _ (behind (record { before = c.before; if1 = p.0 })) p.2.left)
-    (λ p. first_row _ _ _ p.2.left p.4.left)
-    c.if-follows.branch
+    elim c.if-follows.branch [
+      then-follows+else-row-g w ↦ elsewhere _ _ _ (c.follows.ensures.0 w.if-follows.true) w.if-row-g.false
+    | else-follows+else-g-ne0+else-g-ne0-2 w ↦ first_row _ _ _ w.if-g-ne0.false w.if-g-ne0-2.false
+    ]
 
 pub row_way_spec : {M : Type 1} → statement M
 unfolding Leads row_number

@@ -15,5 +15,5 @@ of_counted_spec =
     (tie.spec
     (λ c. search rules)
     (λ c. search rules)
-    (λ c. sym (ap (λ (x : Counted). shown_checked (counted_of x)) c.before.c.given.1))
-    (λ c. sym (ap (λ (x : Counted). shown_checked (counted_of x)) c.before.c2.given.1)))
+    (λ c. sym (ap (λ (x : Counted). shown_checked (counted_of x)) c.in-Deleted.is))
+    (λ c. sym (ap (λ (x : Counted). shown_checked (counted_of x)) c.in-Refused.is)))

@@ -13,4 +13,4 @@ pelisafu_check_deletions_spec =
     (λ c κs. search rules)
     (λ c κs. search rules)
     (λ c κs. search rules)
-    (λ c. c.of-counted.ensures ∙ ap shown_checked (rw c.before.before.section.ensures at c.before.check-deletions.ensures)))
+    (λ c. c.of_counted.ensures ∙ ap shown_checked (rw c.section.ensures at c.check_deletions.ensures)))

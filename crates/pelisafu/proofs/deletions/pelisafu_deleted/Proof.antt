@@ -13,4 +13,4 @@ pelisafu_deleted_spec =
     (λ c κs. search rules)
     (λ c κs. search rules)
     (λ c κs. search rules)
-    (λ c. c.of-contained.ensures ∙ ap shown_contained (rw c.before.before.section.ensures at c.before.contains.ensures)))
+    (λ c. c.of_contained.ensures ∙ ap shown_contained (rw c.section.ensures at c.contains.ensures)))

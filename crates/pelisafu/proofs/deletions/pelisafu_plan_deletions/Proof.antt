@@ -14,4 +14,4 @@ pelisafu_plan_deletions_spec =
     (λ c κs. search rules)
     (λ c. search rules)
     (λ c. search rules)
-    (λ c. (c.of-struck.ensures ∙ ap shown_plan c.before.before.before.before.before.plan-deletions.ensures.0, c.before.before.before.before.before.plan-deletions.ensures.1)))
+    (λ c. (c.of_struck.ensures ∙ ap shown_plan c.plan_deletions.ensures.0, c.plan_deletions.ensures.1)))

@@ -14,4 +14,4 @@ pelisafu_walk_deletions_spec =
     (λ c κs. search rules)
     (λ c κs. search rules)
     (λ c. search rules)
-    (λ c. (c.of-filled.ensures ∙ ap shown_filled (rw c.before.before.before.before.before.section.ensures at c.before.before.before.walk-deletions.ensures.0), rw c.before.before.before.before.before.section.ensures at c.before.before.before.walk-deletions.ensures.1)))
+    (λ c. (c.of_filled.ensures ∙ ap shown_filled (rw c.section.ensures at c.walk_deletions.ensures.0), rw c.section.ensures at c.walk_deletions.ensures.1)))

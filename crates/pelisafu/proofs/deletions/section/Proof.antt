@@ -12,5 +12,5 @@ unfolding section_of
 section_spec =
     tie.close
     (tie.spec
-    (λ c. sym (pick_true _ _ (eq-eqb _ 0 c.if1.true)))
-    (λ c. sym (pick_false _ _ (ne_eqb _ 0 c.if1.false))))
+    (λ c. sym (pick_true _ _ (eq-eqb _ 0 c.if-coded-eq0.true)))
+    (λ c. sym (pick_false _ _ (ne_eqb _ 0 c.if-coded-eq0.false))))

@@ -12,4 +12,4 @@ pelisafu_segment_spec =
     (tie.spec
     (λ c κs. search rules)
     (λ c κs. search rules)
-    (λ c. c.of_entry.ensures ∙ ap shown_entry c.before.segment.ensures))
+    (λ c. c.of_entry.ensures ∙ ap shown_entry c.segment.ensures))

@@ -13,5 +13,5 @@ number_of_spec =
     (tie.spec
     (λ c. search rules)
     (λ c. search rules)
-    (λ c. sym (ap number_of c.enum_told.given.1))
-    (λ c. sym (ap number_of c.before.a.given.1)))
+    (λ c. sym (ap number_of c.in-Done.is))
+    (λ c. sym (ap number_of c.in-Refused.is)))

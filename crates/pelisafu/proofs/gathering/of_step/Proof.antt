@@ -8,4 +8,4 @@ use Rattle.pelisafu.proofs.gathering.of_step.Tie as tie
 
 pub of_step_spec : {M : Type 1} → statement M
 unfolding shown_gathered
-of_step_spec = tie.close (tie.spec (λ c κs. search rules) (λ c. rw (c.number_of_lem.ensures, number_is c.before.before.args.s.answer c.before.before.args.s.after)))
+of_step_spec = tie.close (tie.spec (λ c κs. search rules) (λ c. rw (c.number_of.ensures, number_is c.args.s.answer c.args.s.after)))

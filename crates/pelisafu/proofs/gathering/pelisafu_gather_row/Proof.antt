@@ -13,5 +13,5 @@ pelisafu_gather_row_spec =
     (λ c κs. search rules)
     (λ c. search rules)
     (λ c.
-    let k = c.before.before.before.lend-row.ensures in
-    (rw (c.of-step.ensures, k.0, k.1.0) (refl), k.1.1)))
+    let k = c.lend_row.ensures in
+    (rw (c.of_step.ensures, k.0, k.1.0) (refl), k.1.1)))

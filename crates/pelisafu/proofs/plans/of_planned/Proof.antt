@@ -15,5 +15,5 @@ of_planned_spec =
     (tie.spec
     (λ c. search rules)
     (λ c. search rules)
-    (λ c. sym (ap (λ (x : Planned). shown_plan (planned_of x)) c.before.c.given.1))
-    (λ c. sym (ap (λ (x : Planned). shown_plan (planned_of x)) c.before.c2.given.1)))
+    (λ c. sym (ap (λ (x : Planned). shown_plan (planned_of x)) c.in-Made.is))
+    (λ c. sym (ap (λ (x : Planned). shown_plan (planned_of x)) c.in-Refused.is)))

@@ -14,4 +14,4 @@ pelisafu_plan_ordinals_spec =
     (λ c κs. search rules)
     (λ c. search rules)
     (λ c. search rules)
-    (λ c. (c.of-planned.ensures ∙ ap shown_plan c.before.before.before.before.before.plan-ordinals.ensures.0, c.before.before.before.before.before.plan-ordinals.ensures.1)))
+    (λ c. (c.of_planned.ensures ∙ ap shown_plan c.plan_ordinals.ensures.0, c.plan_ordinals.ensures.1)))

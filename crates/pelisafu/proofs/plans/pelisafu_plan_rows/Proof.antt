@@ -14,4 +14,4 @@ pelisafu_plan_rows_spec =
     (λ c κs. search rules)
     (λ c. search rules)
     (λ c. search rules)
-    (λ c. (c.of-planned.ensures ∙ ap shown_plan c.before.before.before.before.before.plan-rows.ensures.0, c.before.before.before.before.before.plan-rows.ensures.1)))
+    (λ c. (c.of_planned.ensures ∙ ap shown_plan c.plan_rows.ensures.0, c.plan_rows.ensures.1)))

@@ -15,5 +15,5 @@ of_checked_spec =
     (tie.spec
     (λ c. search rules)
     (λ c. search rules)
-    (λ c. sym (ap (λ (x : Checked). shown_checked (checked_of x)) c.before.c.given.1))
-    (λ c. sym (ap (λ (x : Checked). shown_checked (checked_of x)) c.enum_told.given.1)))
+    (λ c. sym (ap (λ (x : Checked). shown_checked (checked_of x)) c.in-Rows.is))
+    (λ c. sym (ap (λ (x : Checked). shown_checked (checked_of x)) c.in-Refused.is)))

@@ -15,5 +15,5 @@ of_filled_spec =
     (tie.spec
     (λ c. search rules)
     (λ c. search rules)
-    (λ c. sym (ap (λ (x : Filled). shown_filled (filled_of x)) c.before.c.given.1))
-    (λ c. sym (ap (λ (x : Filled). shown_filled (filled_of x)) c.before.c2.given.1)))
+    (λ c. sym (ap (λ (x : Filled). shown_filled (filled_of x)) c.in-Written.is))
+    (λ c. sym (ap (λ (x : Filled). shown_filled (filled_of x)) c.in-Refused.is)))

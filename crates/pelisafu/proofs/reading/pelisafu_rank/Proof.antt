@@ -12,4 +12,4 @@ pelisafu_rank_spec =
     (tie.spec
     (λ c κs. search rules)
     (λ c κs. search rules)
-    (λ c. c.of-ranked.ensures ∙ ap shown_ranked c.before.rank.ensures))
+    (λ c. c.of_ranked.ensures ∙ ap shown_ranked c.rank.ensures))

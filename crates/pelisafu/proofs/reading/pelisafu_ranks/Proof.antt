@@ -13,4 +13,4 @@ pelisafu_ranks_spec =
     (λ c κs. search rules)
     (λ c κs. search rules)
     (λ c. search rules)
-    (λ c. (c.of-filled.ensures ∙ ap shown_filled c.before.before.before.ranks.ensures.0, c.before.before.before.ranks.ensures.1)))
+    (λ c. (c.of_filled.ensures ∙ ap shown_filled c.ranks.ensures.0, c.ranks.ensures.1)))

@@ -12,4 +12,4 @@ pelisafu_select_spec =
     (tie.spec
     (λ c κs. search rules)
     (λ c κs. search rules)
-    (λ c. c.of-selected.ensures ∙ ap shown_selected c.before.select.ensures))
+    (λ c. c.of_selected.ensures ∙ ap shown_selected c.select.ensures))

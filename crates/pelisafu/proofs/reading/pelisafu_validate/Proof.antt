@@ -12,4 +12,4 @@ pelisafu_validate_spec =
     (tie.spec
     (λ c κs. search rules)
     (λ c κs. search rules)
-    (λ c. c.of-checked.ensures ∙ ap shown_checked c.before.validate.ensures))
+    (λ c. c.of_checked.ensures ∙ ap shown_checked c.validate.ensures))

@@ -13,4 +13,4 @@ pelisafu_walk_spec =
     (λ c κs. search rules)
     (λ c κs. search rules)
     (λ c. search rules)
-    (λ c. (c.of-filled.ensures ∙ ap shown_filled c.before.before.before.walk.ensures.0, c.before.before.before.walk.ensures.1)))
+    (λ c. (c.of_filled.ensures ∙ ap shown_filled c.walk.ensures.0, c.walk.ensures.1)))
