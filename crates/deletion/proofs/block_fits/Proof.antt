@@ -11,5 +11,5 @@ unfolding block_fits both
 block_fits_spec =
     tie.close
     (tie.spec
-    (λ c. rw (lt-leb 1 _ c.if1.true))
-    (λ c. rw (le-leb 1 _ c.if1.false)))
+    (λ c. rw (lt-leb 1 _ c.if-rows-lt1.true))
+    (λ c. rw (le-leb 1 _ c.if-rows-lt1.false)))

@@ -13,4 +13,4 @@ body_limit_spec =
     (tie.spec
     (λ c κs. search rules)
     (λ c. search rules)
-    (λ c. omega (arith, c.bitmap-length.ensures)))
+    (λ c. omega (arith, c.bitmap_length.ensures)))

@@ -15,8 +15,8 @@ check_deletions_spec =
     tie.close
     (tie.spec
     (λ c κs. search rules)
-    (λ c. refuses c.before.number.ensures _ c.if1.true)
+    (λ c. refuses c.number-refusal.ensures _ c.if-refusal-ne0.true)
     (λ c κs. search rules)
     (λ c.
-    let n = c.before.before.number.ensures in
-    answers n c.before.if1.false (ap (λ (k : ℕ). k ∷ []) (c.stated.ensures ∙ sound-count _ _ _ (number-sound _ _ _ _ (sym n ∙ c.before.if1.false))))))
+    let n = c.number-refusal.ensures in
+    answers n c.if-refusal-ne0.false (ap (λ (k : ℕ). k ∷ []) (c.stated.ensures ∙ sound-count _ _ _ (number-sound _ _ _ _ (sym n ∙ c.if-refusal-ne0.false))))))

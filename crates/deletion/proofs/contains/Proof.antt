@@ -16,7 +16,7 @@ contains_spec =
     tie.close
     (tie.spec
     (λ c κs. search rules)
-    (λ c. refuses c.before.number.ensures _ c.if1.true)
-    (λ c κs. number-sound _ _ _ _ (sym c.before.number.ensures ∙ c.if1.false))
-    (λ c. answers c.before.before.before.number.ensures c.before.before.if1.false (ap (λ (k : ℕ). k ∷ []) (sym (pick_true _ _ (sym c.before.is-deleted.ensures ∙ c.if2.true)))))
-    (λ c. answers c.before.before.before.number.ensures c.before.before.if1.false (ap (λ (k : ℕ). k ∷ []) (sym (pick_false _ _ (sym c.before.is-deleted.ensures ∙ c.if2.false))))))
+    (λ c. refuses c.number-refusal.ensures _ c.if-refusal-ne0.true)
+    (λ c κs. number-sound _ _ _ _ (sym c.number-refusal.ensures ∙ c.if-refusal-ne0.false))
+    (λ c. answers c.number-refusal.ensures c.if-refusal-ne0.false (ap (λ (k : ℕ). k ∷ []) (sym (pick_true _ _ (sym c.is_deleted.ensures ∙ c.if-is_deleted.true)))))
+    (λ c. answers c.number-refusal.ensures c.if-refusal-ne0.false (ap (λ (k : ℕ). k ∷ []) (sym (pick_false _ _ (sym c.is_deleted.ensures ∙ c.if-is_deleted.false))))))

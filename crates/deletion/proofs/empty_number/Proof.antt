@@ -11,5 +11,5 @@ empty_number_spec =
     tie.close
     (tie.spec
     (λ c κs. search rules)
-    (λ c. sym (pick_true _ _ (sym c.before.block-fits.ensures ∙ c.if1.true)))
-    (λ c. sym (pick_false _ _ (sym c.before.block-fits.ensures ∙ c.if1.false))))
+    (λ c. sym (pick_true _ _ (sym c.block_fits.ensures ∙ c.if-block_fits.true)))
+    (λ c. sym (pick_false _ _ (sym c.block_fits.ensures ∙ c.if-block_fits.false))))

@@ -14,6 +14,6 @@ is_deleted_spec =
     (tie.spec
     (λ c. search rules)
     (λ c. search rules)
-    (λ c κs. coded_accepted _ _ c.before.section.given.1 c.before.before.before.before.requires)
-    (λ c. rw c.enum_told.given.1)
-    (λ c. rw c.before.before.section.given.1 c.present.ensures))
+    (λ c κs. coded_accepted _ _ c.in-Coded.is c.requires)
+    (λ c. rw c.in-Empty.is)
+    (λ c. rw c.in-Coded.is c.present.ensures))

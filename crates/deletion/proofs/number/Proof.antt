@@ -14,5 +14,5 @@ number_spec =
     (λ c κs. search rules)
     (λ c. search rules)
     (λ c κs. search rules)
-    (λ c. rw c.before.enum_told.given.1 c.empty-number.ensures)
-    (λ c. rw c.before.before.section.given.1 c.coded-number.ensures))
+    (λ c. rw c.in-Empty.is c.empty_number.ensures)
+    (λ c. rw c.in-Coded.is c.coded_number.ensures))

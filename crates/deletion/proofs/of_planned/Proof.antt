@@ -14,5 +14,5 @@ of_planned_spec =
     (tie.spec
     (λ c. search rules)
     (λ c. search rules)
-    (λ c. sym (ap planned_of c.before.p.given.1))
-    (λ c. sym (ap planned_of c.before.p2.given.1)))
+    (λ c. sym (ap planned_of c.in-Made.is))
+    (λ c. sym (ap planned_of c.in-Refused.is)))

@@ -12,6 +12,6 @@ unfolding place_of
 present_spec =
     tie.close
     (tie.spec
-    (λ c κs. c.before.requires)
+    (λ c κs. c.requires)
     (λ c κs. search rules)
-    (λ c. c.is_row.ensures ∙ ap (λ (q : Place). q.present) c.before.place.ensures))
+    (λ c. c.is_row.ensures ∙ ap (λ (q : Place). q.present) c.place.ensures))

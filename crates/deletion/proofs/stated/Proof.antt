@@ -13,5 +13,5 @@ stated_spec =
     (tie.spec
     (λ c. search rules)
     (λ c. search rules)
-    (λ c. sym (ap stated_of c.enum_told.given.1))
-    (λ c. sym (ap stated_of c.before.section.given.1)))
+    (λ c. sym (ap stated_of c.in-Empty.is))
+    (λ c. sym (ap stated_of c.in-Coded.is)))

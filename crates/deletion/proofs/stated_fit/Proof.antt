@@ -12,7 +12,7 @@ unfolding stated_fit both
 stated_fit_spec =
     tie.close
     (tie.spec
-    (λ c. rw (lt-leb 1 _ c.if1.true))
-    (λ c. rw (le-leb 1 _ c.before.if1.false, lt-leb _ _ c.if2.true))
+    (λ c. rw (lt-leb 1 _ c.if-count-lt1.true))
+    (λ c. rw (le-leb 1 _ c.if-count-lt1.false, lt-leb _ _ c.if-rows-count.true))
     (λ c κs. search rules)
-    (λ c. rw (le-leb 1 _ c.before.before.if1.false, le-leb _ _ c.before.if2.false, c.body-limit.ensures)))
+    (λ c. rw (le-leb 1 _ c.if-count-lt1.false, le-leb _ _ c.if-rows-count.false, c.body_limit.ensures)))

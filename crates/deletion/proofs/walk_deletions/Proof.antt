@@ -16,10 +16,10 @@ walk_deletions_spec =
     tie.close
     (tie.spec
     (λ c κs. search rules)
-    (λ c. (refuses c.before.number.ensures _ c.if1.true, keeps c.before.number.ensures _ _ c.if1.true))
-    (λ c κs. number-sound _ _ _ _ (sym c.before.before.number.ensures ∙ c.before.if1.false))
+    (λ c. (refuses c.number-refusal.ensures _ c.if-refusal-ne0.true, keeps c.number-refusal.ensures _ _ c.if-refusal-ne0.true))
+    (λ c κs. number-sound _ _ _ _ (sym c.number-refusal.ensures ∙ c.if-refusal-ne0.false))
     (λ c. search rules)
     (λ c.
-    let n = c.before.before.before.before.before.number.ensures in
-    let z = c.before.before.before.before.if1.false in
-    (answers n z (ap (λ (k : ℕ). k ∷ []) c.before.before.write.ensures.number), leaves n _ z c.before.before.write.ensures.written)))
+    let n = c.number-refusal.ensures in
+    let z = c.if-refusal-ne0.false in
+    (answers n z (ap (λ (k : ℕ). k ∷ []) c.write.ensures.number), leaves n _ z c.write.ensures.written)))

@@ -14,7 +14,7 @@ write_spec =
     (tie.spec
     (λ c. search rules)
     (λ c. search rules)
-    (λ c κs. (coded_accepted _ _ c.before.before.section.given.1 c.before.before.before.before.before.before.requires, coded_count _ _ c.before.before.section.given.1 c.before.before.before.before.before.before.requires))
-    (λ c. rw c.enum_told.given.1 (walked_none _ c.before.before.before.before.args.from))
+    (λ c κs. (coded_accepted _ _ c.in-Coded.is c.requires, coded_count _ _ c.in-Coded.is c.requires))
+    (λ c. rw c.in-Empty.is (walked_none _ c.args.from))
     (λ c. search rules)
-    (λ c. rw c.before.before.before.before.before.section.given.1 c.before.before.write-coded.ensures))
+    (λ c. rw c.in-Coded.is c.write_coded.ensures))

@@ -17,7 +17,7 @@ write_coded_spec =
     _
     _
     _
-    c.before.before.before.before.before.before.before.args.from
-    c.before.before.before.before.before.before.before.requires.1
-    c.before.before.before.before.steps.ensures
-    c.before.before.write-from.ensures))
+    c.args.from
+    c.requires.1
+    c.steps-n.ensures
+    c.write_from.ensures))

@@ -21,8 +21,8 @@ segment_spec =
     (tie.spec
     (λ c κs. search rules)
     (λ c. refuses _ _ _ _ (test_fails c.check.ensures c.if-not-check.true))
-    (λ c. answers _ _ _ (test_holds c.check.ensures c.if-not-check.false) (ap accepted (sym (pick_false _ _ (ne_eqb _ 9 c.if-tag-ne9.true)))))
-    (λ c κs. omega (arith, nine_room _ _ _ (test_holds c.check.ensures c.if-not-check.false) c.if-tag-ne9.false))
-    (λ c. answers _ _ _ (test_holds c.check.ensures c.if-not-check.false) (ap accepted (sym (pick_true _ _ (eq-eqb _ 9 c.if-tag-ne9.false) ∙ pick_false _ _ (entry_past _ c.segments.ensures.0 c.if-segments-i.true)))))
-    (λ c κs. omega (arith, (directory_of _ _ (nine _ _ _ (test_holds c.check.ensures c.if-not-check.false) c.if-tag-ne9.false)).room, c.segments.ensures.0))
-    (λ c. answers _ _ _ (test_holds c.check.ensures c.if-not-check.false) (ap accepted (ap values_of c.entry.ensures ∙ sym (pick_true _ _ (eq-eqb _ 9 c.if-tag-ne9.false) ∙ pick_true _ _ (entry_in _ c.segments.ensures.0 c.if-segments-i.false))))))
+    (λ c. answers _ _ _ (test_holds c.check.ensures c.if-not-check.false) (ap accepted (sym (pick_false _ _ (ne_eqb _ 9 (λ e. omega (arith, e)))))))
+    (λ c κs. omega (arith, nine_room _ _ _ (test_holds c.check.ensures c.if-not-check.false) (omega arith)))
+    (λ c. answers _ _ _ (test_holds c.check.ensures c.if-not-check.false) (ap accepted (sym (pick_true _ _ (eq-eqb _ 9 (omega arith)) ∙ pick_false _ _ (entry_past _ c.segments.ensures.0 c.if-segments-i.true)))))
+    (λ c κs. omega (arith, (directory_of _ _ (nine _ _ _ (test_holds c.check.ensures c.if-not-check.false) (omega arith))).room, c.segments.ensures.0))
+    (λ c. answers _ _ _ (test_holds c.check.ensures c.if-not-check.false) (ap accepted (ap values_of c.entry.ensures ∙ sym (pick_true _ _ (eq-eqb _ 9 (omega arith)) ∙ pick_true _ _ (entry_in _ c.segments.ensures.0 c.if-segments-i.false))))))

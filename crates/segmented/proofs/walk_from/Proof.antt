@@ -27,7 +27,7 @@ walk_from_spec =
     (λ c κs. omega (arith, (directory_of _ _ c.requires.0).room))
     (λ c. going_start _ _ _ _ c.requires.1 c.requires.2)
     (λ c. going_length _ _ c.requires.0 (bytes c.before.before.before.before.before) c.loop-i.invariant)
-    (λ c. going_full _ _ c.requires.0 (bytes c.before.before.before.before.before) c.loop-i.invariant c.if-end-at.true)
+    (λ c. going_full _ _ c.requires.0 (bytes c.before.before.before.before.before) c.loop-i.invariant (omega arith))
     (λ c κs. entry-room _ _ _ (accepted_directory _ _ c.requires.0) (omega (arith, c.segments-n.ensures.0)))
     (λ c κs. (entry_readable _ _ c.requires.0 _ (omega (arith, c.segments-n.ensures.0)) c.entry.ensures, omega (arith, going_length _ _ c.requires.0 (bytes c.before.before.before.before.before.before.before) c.loop-i.invariant)))
     (λ c. omega (arith, going_room _ _ c.requires.0 (bytes c.before.before.before.before.before.before.before.before.before.before) c.loop-i.invariant (omega (arith, c.segments-n.ensures.0)) (segment_walk _ _ c.requires.0 (bytes c.before.before.before.before.before.before.before.before.before.before) _ (omega (arith, c.segments-n.ensures.0)) c.entry.ensures _ _) c.walk_at-at.ensures))

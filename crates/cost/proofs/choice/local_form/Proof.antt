@@ -25,7 +25,7 @@ local_form_spec =
     let k = c.before.before in
     let z = k.before.before.before in
     let p = z.requires in
-    c.dense.ensures ∙ sym (dense-local z.args.s (omega (arith, c.if-holes-eq0.true, k.local_span-span.ensures.0)) (omega (arith, p.some, p.few))))
+    c.dense.ensures ∙ sym (dense-local z.args.s (omega (arith, k.local_span-span.ensures.0)) (omega (arith, p.some, p.few))))
     (λ c. search rules)
     (λ c κs. search rules)
     (λ c. search rules)
@@ -39,5 +39,5 @@ local_form_spec =
     (λ c.
     let m = c.before.before.before.before.before.before in
     let k = m.before.before in
-    let n = ne_eqb (holes_of k.args.s) 0 (λ e. m.if-holes-eq0.false (omega (arith, e, k.local_span-span.ensures.0))) in
+    let n = ne_eqb (holes_of k.args.s) 0 (λ e. omega (arith, e, k.local_span-span.ensures.0)) in
     rw (n, c.cheaper.ensures, c.bitmap.ensures, c.cheaper-d.ensures, c.items-2.ensures, c.cheaper-b.ensures, c.items.ensures, m.items-list.ensures, k.local_span-span.ensures.0)))
