@@ -62,4 +62,4 @@ join_seeds_spec =
     let inv = c.loop-q.invariant in
     let most : c.loop-q.taken ≤ 3 * (n - 1) = omega (arith, state_most inv.2 inv.1) in
     subst (λ (f : ℕ → Stats). (c.loop-q.taken ≡ offers_of f n) × ((c.loop-q.taken ≤ 3 * (n - 1)) × Merged f n (records n c.loop-q.w))) kept
-    (end-count c.loop-q-test.false inv.2, (most, end-merged c.loop-q-test.false inv.2))))
+    (end-count (omega arith) inv.2, (most, end-merged (omega arith) inv.2))))

@@ -16,10 +16,10 @@ offer_left_spec =
     (λ c κs. search rules)
     (λ c κs.
     let pre = c.requires in
-    left_reads _ _ _ _ _ _ pre.0 pre.1.0 pre.1.1.0 (pre.1.1.1 c.if-l-gt0.true) c.cell-p.ensures.0)
+    left_reads _ _ _ _ _ _ pre.0 pre.1.0 pre.1.1.0 (pre.1.1.1 (omega arith)) c.cell-p.ensures.0)
     (λ c. search rules)
     (λ c.
     let args = c.args in
     let p = c.cell-p.ensures.0 ∙ records-field args.n args.w.now args.l 1 (omega arith) (omega arith) in
-    added-left _ _ _ c.if-l-gt0.true p c.offer.ensures)
-    (λ c. added_none _ _ c.if-l-gt0.false c.requires.1.1.0))
+    added-left _ _ _ (omega arith) p c.offer.ensures)
+    (λ c. added_none _ _ (omega arith) c.requires.1.1.0))

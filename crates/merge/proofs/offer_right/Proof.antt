@@ -26,12 +26,12 @@ offer_right_spec =
     let read = c.before.before in
     let e = after read in
     let pre = (given read).requires in
-    right_reads _ _ _ _ _ _ pre.0 pre.1.0 pre.1.1.0 (pre.1.1.1 (omega (arith, c.if-z-gt0.true))) e)
+    right_reads _ _ _ _ _ _ pre.0 pre.1.0 pre.1.1.0 (pre.1.1.1 (omega arith)) e)
     (λ c. search rules)
     (λ c.
-    added-right _ _ _ c.if-z-gt0.true (after c.before.before.before.before.before) c.offer.ensures)
+    added-right _ _ _ (omega arith) (after c.before.before.before.before.before) c.offer.ensures)
     (λ c. search rules)
     (λ c.
     let at = given c.before in
     let e = after c.before in
-    added_none (next (records at.args.n at.args.w.now) at.args.r) _ (omega (arith, c.if-z-gt0.false)) at.requires.1.1.0))
+    added_none (next (records at.args.n at.args.w.now) at.args.r) _ (omega arith) at.requires.1.1.0))

@@ -3,22 +3,23 @@
 use mathlib.Core.Path.{refl}
 use mathlib.Core.List.{List}
 use Prim.Native.Nat.{ℕ}
+use native.Mathlib.Omega.{arith}
 use borrow.Author.Rules.{rules}
 use Rattle.plan.specs.Plans.{planned_of}
 use Rattle.plan.proofs.Steps.{early-refused, seeds-few, Lent, lent, lent_inside, lent_tested, back_room, back_planned}
 use Rattle.plan.proofs.plan_rows.Statement.{statement}
 use Rattle.plan.proofs.plan_rows.Tie as tie
 
-abbrev judged : tie.Else-early-ne0 → tie.After-rows_early-early
-judged e = e.before.before
+abbrev judged : tie.After-words_for-words → tie.After-rows_early-early
+judged w = w.before.before.before
 
-abbrev entry : tie.Else-early-ne0 → tie.Start
-entry e = (judged e).before.before.before.before.before
+abbrev entry : tie.After-words_for-words → tie.Start
+entry w = (judged w).before.before.before.before.before
 
 -- the words that are lent, and what comes back of them
 words : (w : tie.After-words_for-words)
-    → Lent (entry w.before).args.start (entry w.before).args.end (entry w.before).args.rows.now (entry w.before).args.seeds.now (entry w.before).args.work.now (judged w.before).rows_early-early.result.seeds w.words_for-words.result
-words w = lent (judged w.before).rows_early-early.ensures w.if-early-ne0.false w.words_for-words.ensures
+    → Lent (entry w).args.start (entry w).args.end (entry w).args.rows.now (entry w).args.seeds.now (entry w).args.work.now (judged w).rows_early-early.result.seeds w.words_for-words.result
+words w = lent (judged w).rows_early-early.ensures (omega arith) w.words_for-words.ensures
 
 abbrev back : tie.After-planned_rows-r → List ℕ
 back p = p.planned_rows-r.new.w
@@ -29,8 +30,8 @@ plan_rows_spec =
     tie.close
     (tie.spec
     (λ c κs. search rules)
-    (λ c. early-refused c.rows_early-early.ensures _ _ _ refl c.if-early-ne0.true)
-    (λ c κs. seeds-few (judged c).rows_early-early.ensures c.if-early-ne0.false)
+    (λ c. early-refused c.rows_early-early.ensures _ _ _ refl (λ e. omega (arith, e)))
+    (λ c κs. seeds-few c.before.before.rows_early-early.ensures (omega arith))
     (λ c. search rules)
     (λ c. search rules)
     (λ c. lent_inside (words c))
