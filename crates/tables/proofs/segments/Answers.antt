@@ -1,6 +1,5 @@
-use Rattle.std.proofs.Common.{◌≡◌, sym, ap, ◌∙◌, ◌+◌, ◌<◌, length, ℕ, List, arith, slice_set}
+use Rattle.std.proofs.Common.{◌≡◌, sym, ap, ◌∙◌, length, ℕ, List, arith, slice_set}
 use Rattle.directory.specs.declared.Segment.{Segment}
-use Rattle.directory.specs.Directory.{entry_of}
 use Rattle.rowset.specs.Calls.{filled_of}
 use Rattle.rowset.specs.declared.Filled.{Filled}
 use Rattle.tables.specs.Tables.{written_in, segments_answer}
@@ -28,10 +27,12 @@ bounds-table-i c =
     omega arith
 
 pub loop-i-preserved : goal.loop-i-preserved
-loop-i-preserved c =
-    (ap (λ (t : List Segment). slice_set t c.loop-i.i c.entry.result) c.loop-i.invariant.0
-    ∙ ap (λ (e : Segment). slice_set (fill_to c.args.body.now c.loop-i.i c.args.table.now) c.loop-i.i e) c.entry.ensures
-    ∙ fill_next c.args.body.now c.loop-i.i c.args.table.now, omega arith)
+loop-i-preserved c = (
+  ap (λ (t : List Segment). slice_set t c.loop-i.i c.entry.result) c.loop-i.invariant.0
+      ∙ ap (λ (e : Segment). slice_set (fill_to c.args.body.now c.loop-i.i c.args.table.now) c.loop-i.i e) c.entry.ensures
+      ∙ fill_next c.args.body.now c.loop-i.i c.args.table.now,
+  omega arith,
+)
 
 pub returns-clause-table_after : goal.returns-clause-table_after
 returns-clause-table_after c =

@@ -22,8 +22,8 @@ refused c =
 begun : (c : tie.Joined-follows) → let s = c.before.before in Begins s.args.g s.args.room s.args.row
 begun c =
     elim c.if-follows.branch [
-      then-follows+else-row-g w ↦ elsewhere _ _ _ (c.follows.ensures.0 w.if-follows.true) w.if-row-g.false
-    | else-follows+else-g-ne0+else-g-ne0-2 w ↦ first_row _ _ _ w.if-g-ne0.false w.if-g-ne0-2.false
+      | then-follows+else-row-g w ↦ elsewhere _ _ _ (c.follows.ensures.0 w.if-follows.true) w.if-row-g.false
+      | else-follows+else-g-ne0+else-g-ne0-2 w ↦ first_row _ _ _ w.if-g-ne0.false w.if-g-ne0-2.false
     ]
 
 pub row_way_spec : {M : Type 1} → statement M
