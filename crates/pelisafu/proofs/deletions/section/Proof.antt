@@ -1,6 +1,7 @@
 -- `pelisafu::deletions::section` meets its contract.
 -- Assumes nothing.
 use mathlib.Core.Path.{sym}
+use native.Mathlib.Omega.{arith}
 use borrow.Author.Tests.{eq-eqb, ne_eqb}
 use Rattle.model.proofs.Tests.{pick_true, pick_false}
 use Rattle.pelisafu.specs.Shown.{section_of}
@@ -12,5 +13,5 @@ unfolding section_of
 section_spec =
     tie.close
     (tie.spec
-    (λ c. sym (pick_true _ _ (eq-eqb _ 0 c.if-coded-eq0.true)))
-    (λ c. sym (pick_false _ _ (ne_eqb _ 0 c.if-coded-eq0.false))))
+    (λ c. sym (pick_true _ _ (eq-eqb _ 0 (omega arith))))
+    (λ c. sym (pick_false _ _ (ne_eqb _ 0 (λ e. omega (arith, e))))))

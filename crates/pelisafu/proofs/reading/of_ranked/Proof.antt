@@ -17,5 +17,5 @@ of_ranked_spec =
     (λ c. search rules)
     (λ c. search rules)
     (λ c. sym (ap (λ (x : Ranked). shown_ranked (ranked_of x)) c.in-Ordinal.is))
-    (λ c. sym (ap (λ (x : Ranked). shown_ranked (ranked_of x)) c.in-Nothing.is))
-    (λ c. sym (ap (λ (x : Ranked). shown_ranked (ranked_of x)) c.in-Refused.is)))
+    (λ c. search rules)
+    (λ c. search rules))
