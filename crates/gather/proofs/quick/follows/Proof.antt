@@ -15,7 +15,7 @@ follows_spec =
     (λ c. ((λ e. absurd (false≢true e)), (λ e f. omega (arith, f.some, c.if-g-eq0.true))))
     (λ c. ((λ e. absurd (false≢true e)), (λ e f. omega (arith, (followed _ _ _ f).able.in_room, c.if-room-g.true))))
     (λ c. ((λ e. absurd (false≢true e)), (λ e f. omega (arith, (followed _ _ _ f).able.in_rows, c.if-g.true))))
-    (λ c. ((λ e. absurd (false≢true e)), (λ e f. omega (arith, (followed _ _ _ f).counted.few, c.if-g-gt65534.true))))
+    (λ c. ((λ e. absurd (false≢true e)), (λ e f. omega (arith, (followed _ _ _ f).counted.few))))
     (λ c. ((λ e. absurd (false≢true e)), (λ e f. omega (arith, followed_order _ _ _ f, c.if-g-2.true))))
     (λ c.
     let c5 = c.before in
@@ -25,4 +25,4 @@ follows_spec =
     let c1 = c2.before.before in
     let a = c1.args in
     let some : 1 ≤ a.g.entries = omega (arith, c1.if-g-eq0.false) in
-    ((λ e. follows _ _ _ (record { in_room = c2.if-room-g.false; in_rows = c3.if-g.false; some = λ n. some; ordered = λ n. c5.if-g-2.false }) some (omega (arith, c4.if-g-gt65534.false)) (ltb-true _ _ e)), (λ e f. omega (arith, followed_above _ _ _ f, ltb-false a.g.last a.row e)))))
+    ((λ e. follows _ _ _ (record { in_room = c2.if-room-g.false; in_rows = c3.if-g.false; some = λ n. some; ordered = λ n. c5.if-g-2.false }) some (omega arith) (ltb-true _ _ e)), (λ e f. omega (arith, followed_above _ _ _ f, ltb-false a.g.last a.row e)))))

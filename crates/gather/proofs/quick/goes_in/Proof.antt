@@ -33,4 +33,4 @@ goes_in_spec =
     let c1 = c2.before.before in
     let some : 1 ≤ c1.args.g.entries = omega (arith, c2.if-g-eq0.false) in
     let few = ltb-false _ _ (sym c6.too_many.ensures ∙ c6.if-too_many.false) in
-    goes_in _ _ _ (omega (arith, c1.if-rows-eq0.false)) (record { in_room = c3.if-room-g.false; in_rows = c5.if-g.false; some = λ n. some; ordered = λ n. c7.if-g-2.false }) some c4.if-room-g-2.false few (c.rises_closely.ensures e)))
+    goes_in _ _ _ (omega (arith, c1.if-rows-eq0.false)) (record { in_room = c3.if-room-g.false; in_rows = c5.if-g.false; some = λ n. some; ordered = λ n. c7.if-g-2.false }) some (omega arith) few (c.rises_closely.ensures e)))
