@@ -23,7 +23,7 @@ use Rattle.missing.specs.Missing.{missing_layout}
 use Rattle.forms.specs.Forms.{by_tag, local_accepts, local_names, local_layout}
 use Rattle.forms.specs.RowSets.{RowSet}
 use Rattle.forms.proofs.Bounds.{dense-all, missing-span, items_hold, starts_hold}
-use Rattle.single.specs.Single.{view, fit, view_of, bitmap_view, trimmed_missing_view, named_in, ends_ok, single_names}
+use Rattle.single.specs.Single.{fit, view_of, bitmap_view, trimmed_missing_view, named_in, ends_ok, single_names}
 use Rattle.single.specs.declared.View.{View}
 use Rattle.single.specs.Layout.{first_of, extent_of, plain_layout, trimmed_layout, single_layout}
 use Rattle.single.proofs.Laid.{single_layout_lem, first-is, extent-is}
@@ -33,7 +33,6 @@ use Rattle.directory.specs.Directory.{stated_segments}
 use Rattle.bodies.specs.Bodies.{accepts, names}
 use Rattle.bodies.proofs.Laws.{names_nine, names-other, nine, other, names-few}
 use Rattle.bodies.proofs.Named.{names-rising, names-some}
-use Rattle.planning.proofs.Singly.{bitmap}
 use Rattle.demands.specs.Layouts.{Dense, Items, Runs, Trimmed, Bitmap, Missing, TrimmedMissing, Segmented}
 
 module _ (tag span : ℕ) (xs : List ℕ) (bytes : Bytes xs) (ok : accepts tag span xs ≡ true) where

@@ -1,6 +1,6 @@
 -- Demand 1: what `One` says of a call is the call's contract. `Learnt` is what the check reads from a function's `ensures`, and so what a caller learns:
 -- of the arguments, the result, and what is left of each argument. A reference holds what it refers to, which `now` reads; what is left of a `&`
--- is what was passed. The check makes no such reading of functions that are proved by hand: `tables::segments`, `gather::add_row`, `gather::add_page`.
+-- is what was passed. Of `gather::add_row` and `gather::add_page`, whose module is their crate's own, `Adds` there says that it is `Said`.
 -- Assumes nothing.
 use mathlib.Core.List.{List, []}
 use Prim.Native.Nat.{ℕ}
@@ -19,8 +19,12 @@ use Rattle.rowset.proofs.ranks.Reads as ranks
 use Rattle.rowset.proofs.walk.Reads as walk
 use Rattle.gather_core.specs.declared.Gatherer.{Gatherer}
 use Rattle.gather.specs.declared.Gathered.{Gathered}
+use Rattle.gather.specs.declared.lent.Added.{Added}
 use Rattle.gather.proofs.gather_row.Reads as gather-row
 use Rattle.gather.proofs.gather_page.Reads as gather-page
+use Rattle.gather.proofs.Promised.{of_row, of_page, Said}
+use Rattle.directory.specs.declared.Segment.{Segment}
+use Rattle.tables.proofs.segments.Reads as segments
 use Rattle.plan.specs.declared.Planned.{Planned}
 use Rattle.plan.proofs.plan_rows.Reads as plan-rows
 use Rattle.plan.proofs.plan_ordinals.Reads as plan-ordinals
@@ -39,8 +43,11 @@ use Rattle.demands.proofs.One.{
   SegmentSays,
   RanksSays,
   WalkSays,
+  SegmentsSays,
   GatherRowSays,
   GatherPageSays,
+  AddRowSays,
+  AddPageSays,
   PlanSays,
   CheckSays,
   ContainsSays,
@@ -76,12 +83,24 @@ module _ (tag span : ℕ) (body : Slice) where
       → walk.Learnt κs (tag, (span, (body, (from, (old, tt))))) r (tag, (span, (body, (from, (left, tt))))) → WalkSays tag span body.now from old.now (r, left.now)
   walk_says κs from old left r l = l
 
+  pub segments_says : (κs : Lfts 2) (old left : MutBor (List Segment)) (r : Filled)
+      → segments.Learnt κs (tag, (span, (body, (old, tt)))) r (tag, (span, (body, (left, tt)))) → SegmentsSays tag span body.now old.now (r, left.now)
+  segments_says κs old left r l = l
+
 module _ (g : Gatherer) (table left : MutSlice) (r : Gathered) where
   pub gather_row_says : (κs : Lfts 1) (row : ℕ) → gather-row.Learnt κs (g, (table, (row, tt))) r (g, (left, (row, tt))) → GatherRowSays g table.now row (r, left.now)
   gather_row_says κs row l = l
 
   pub gather_page_says : (κs : Lfts 2) (rows : Slice) → gather-page.Learnt κs (g, (table, (rows, tt))) r (g, (left, (rows, tt))) → GatherPageSays g table.now rows.now (r, left.now)
   gather_page_says κs rows l = l
+
+-- of a record that is lent to be changed too
+module _ (g g' : Gatherer) (table left : List ℕ) (a : Added) where
+  pub add_row_says : (row : ℕ) → Said (of_row g table row) a g' left → AddRowSays g table row (a, (g', left))
+  add_row_says row l = l
+
+  pub add_page_says : (rows : List ℕ) → Said (of_page g table rows) a g' left → AddPageSays g table rows (a, (g', left))
+  add_page_says rows l = l
 
 module _ (limit : ℕ) (work out work' out' : MutSlice) where
   pub plan_rows_says : (κs : Lfts 4) (start end : ℕ) (rows seeds : Slice) (r : Planned)

@@ -2,7 +2,6 @@
 -- Assumes nothing.
 use mathlib.Core.Path.{◌≡◌, refl}
 use mathlib.Core.Bool.{true}
-use Prim.Native.Nat.{◌-◌}
 use Rattle.fields.specs.Le.{le, digits}
 use Rattle.model.specs.Tests.{both, pick, all, tabulate, flat, total}
 use Rattle.model.specs.Lists.{counted, has, shift, range, below, complement, onto, runs_of, positions_of}

@@ -81,8 +81,10 @@ module _ (tag span : ℕ) (body : List ℕ) where
   pub walk_once : (from : ℕ) (old : List ℕ) → Once (WalkSays from old)
   walk_once from old a b p q = pair (filled_same a.0 b.0 (alike p.0 q.0)) (alike p.1 q.1)
 
-  pub segments_once : (old : List Segment)
-      → Once (λ (r : Filled × List Segment). (filled_of r.0 ≡ segments_answer tag span body (length old)) × (r.1 ≡ segments_left tag span body old))
+  abbrev pub SegmentsSays : List Segment → Filled × List Segment → Type 0
+  SegmentsSays old r = (filled_of r.0 ≡ segments_answer tag span body (length old)) × (r.1 ≡ segments_left tag span body old)
+
+  pub segments_once : (old : List Segment) → Once (SegmentsSays old)
   segments_once old a b p q = pair (filled_same a.0 b.0 (alike p.0 q.0)) (alike p.1 q.1)
 
 -- ---- gathering: by value the record is in the answer, by reference it is what is left of the record that was lent
@@ -106,10 +108,16 @@ module _ (g : Gatherer) (table : List ℕ) where
   adds_once : (w : Answer) (record' : Gatherer) (table' : List ℕ) → Once (Adds w record' table')
   adds_once w record' table' a b p q = pair (added-same a.0 b.0 a.1.0 b.1.0 (alike p.0 q.0)) (pair (alike p.1.0 q.1.0) (alike p.1.1 q.1.1))
 
-  pub add_row_once : (row : ℕ) → Once (Adds (row_answer g (length table) row) (row_record g (length table) row) (row_table g table row))
+  abbrev pub AddRowSays : ℕ → Added × (Gatherer × List ℕ) → Type 0
+  AddRowSays row = Adds (row_answer g (length table) row) (row_record g (length table) row) (row_table g table row)
+
+  pub add_row_once : (row : ℕ) → Once (AddRowSays row)
   add_row_once row = adds_once _ _ _
 
-  pub add_page_once : (rows : List ℕ) → Once (Adds (page_answer g (length table) rows) (page_record g (length table) rows) (page_table g table rows))
+  abbrev pub AddPageSays : List ℕ → Added × (Gatherer × List ℕ) → Type 0
+  AddPageSays rows = Adds (page_answer g (length table) rows) (page_record g (length table) rows) (page_table g table rows)
+
+  pub add_page_once : (rows : List ℕ) → Once (AddPageSays rows)
   add_page_once rows = adds_once _ _ _
 
 -- ---- planning: the output and the workspace are left

@@ -2,16 +2,13 @@
 -- with them.
 -- Assumes nothing.
 use Rattle.std.specs.Prelude.{Bool, true, false, List, [], ◌∷◌, ◌++◌, ℕ, ◌+◌, ◌-◌, ◌*◌, eqb, length, get_or}
-use Rattle.model.specs.Tests.{both, all, tabulate}
-use Rattle.model.specs.Lists.{has, range, positions_of}
+use Rattle.model.specs.Tests.{both, tabulate}
+use Rattle.model.specs.Lists.{range, positions_of}
 use Rattle.model.specs.Answers.{Answer, accepted, refused}
 use Rattle.bodies.specs.Bodies.{names}
 use Rattle.rowset.specs.Calls.{validate_of}
 use Rattle.gather_core.specs.declared.Gatherer.{Gatherer}
 use Rattle.gather_core.specs.Gather.{page_answer, page_table}
-use Rattle.gather_core.specs.Seeds.{windows}
-use Rattle.merge.specs.Rule.{without, offers}
-use Rattle.links.specs.Pairs.{saves}
 use Rattle.planning.specs.Planning.{planned_body, plan_of}
 
 -- ---- a case, and whether it is as the definitions have it

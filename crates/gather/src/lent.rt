@@ -166,7 +166,7 @@ pub fn add_page(g: &mut Gatherer, table: &mut [u16], rows: &[u64]) -> Added
     }
 }
 
-// `add_row` on a local record: whoever calls this needs no proof by hand.
+// `add_row` on a local record.
 pub fn lend_row(g: Gatherer, table: &mut [u16], row: u64) -> Step
     ensures answered { added_answer result.answer result.after ≡ row_answer g (length table.old) row }
     ensures record_after { result.after ≡ row_record g (length table.old) row }

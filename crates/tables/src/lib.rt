@@ -73,7 +73,7 @@ pub struct Pair {
     pub table: [Segment; 2],
 }
 
-// The same over a table that is handed in and back: whoever calls this lends nothing, and is covered.
+// The same over a table that is handed in and back: whoever calls this lends nothing.
 pub fn segments_pair(tag: u8, span: u32, body: &[u8], table: [Segment; 2]) -> Pair
     ensures answer_value { filled_of result.answer ≡ segments_answer tag span body.now 2 }
     ensures table_value { result.table ≡ segments_left tag span body.now table }
