@@ -13,7 +13,7 @@ use Rattle.stats.specs.declared.Stats.{Stats}
 use Rattle.stats.specs.Statistics.{stats_of}
 use Rattle.stats.specs.Rows.{Covered}
 use Rattle.cost.specs.declared.Form.{Form}
-use Rattle.model.proofs.Runs.{runs-most}
+use Rattle.model.proofs.Runs.{runs_most}
 use Rattle.model.proofs.Positions.{length_positions}
 use Rattle.single.specs.Layout.{plain_layout, trimmed_layout, single_layout}
 use Rattle.emit.specs.Written.{Written}
@@ -51,7 +51,7 @@ module _ {n : ℕ} {t : List ℕ} {start : ℕ} {rows : List ℕ} {span : ℕ} {
   runs_known =
       let k = w.kept in
       let e : sum.stats.runs ≡ length (runs_of (positions_of start rows)) = ap (λ (s : Stats). s.runs) (w.summed.stats (positions_of start rows) k.segs k.held) in
-      (e, omega (arith, e, runs-most (positions_of start rows), length_positions start rows, k.few))
+      (e, omega (arith, e, runs_most (positions_of start rows), length_positions start rows, k.few))
 
   pub plain_ask : (f.tag ≡ 9 → ⊥) → f.trimmed ≡ false → (Rising start (start + span) rows) × (length rows ≤ 65535) × (sum.stats.runs ≡ length (runs_of (positions_of start rows))) × (length (plain_layout f.tag span (positions_of start rows)) ≤ room)
   plain_ask o e = let k = w.kept in (w.rising, k.few, runs_known.0, rw (by_plain f span (positions_of start rows) k.segs o e) at w.fits)

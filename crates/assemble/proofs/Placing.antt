@@ -12,7 +12,7 @@ use Rattle.model.specs.Tests.{flat, total}
 use Rattle.model.proofs.Tests.{flat_length_step}
 use Rattle.model.proofs.Pieces.{flat_length_le}
 use Rattle.model.proofs.Sums.{flat-total}
-use Rattle.model.proofs.Rising.{rising-take, rising-drop, rising-ends}
+use Rattle.model.proofs.Rising.{rising_take, rising_drop, rising_ends}
 use Rattle.model.specs.Lists.{Rising, positions_of}
 use Rattle.stats.specs.declared.Stats.{Stats}
 use Rattle.stats.specs.Statistics.{stats_of, span_of}
@@ -20,7 +20,7 @@ use Rattle.stats.specs.Rows.{Covered}
 use Rattle.cost.specs.declared.Form.{Form}
 use Rattle.cost.specs.Forms.{local_form}
 use Rattle.model.proofs.Positions.{length_positions, positions_take, positions_drop}
-use Rattle.stats.proofs.Positions.{stats-rows, covered-sound}
+use Rattle.stats.proofs.Positions.{stats_rows, covered_sound}
 use Rattle.single.specs.Layout.{first_of, extent_of}
 use Rattle.links.specs.Tables.{next, stat_at}
 use Rattle.directory.specs.Directory.{directory_size}
@@ -31,7 +31,7 @@ use Rattle.directory.specs.declared.Segment.{Segment}
 use Rattle.emit.specs.Written.{Written}
 use Rattle.encode.specs.Headers.{entry_bytes}
 use Rattle.encode.specs.Segments.{Placed}
-use Rattle.encode.proofs.Wholes.{ends_in, trimmed-extent, trimmed-own}
+use Rattle.encode.proofs.Wholes.{ends_in, trimmed_extent, trimmed_own}
 use Rattle.encode.proofs.Directories.{Laying, laying_start, laying_length, laying_next, laying_end}
 use Rattle.planning.specs.Bodies.{segment_at, tag_of, payload_of, entries_of, payload_at, segmented_layout}
 use Rattle.planning.specs.Held.{Held}
@@ -78,30 +78,30 @@ module _ (start : ℕ) (rows : List ℕ) (k : Covered start rows) where
   abbrev P : List ℕ
   P = positions_of start rows
 
-  span-own : span_of (stats_of P) ≡ get_or rows (length rows - 1) 0 - get_or rows 0 0 + 1
-  span-own =
+  span_own : span_of (stats_of P) ≡ get_or rows (length rows - 1) 0 - get_or rows 0 0 + 1
+  span_own =
       let e = ends_in start rows k in
-      ap (λ (s : Stats). span_of s) (stats-rows start rows k) ∙ omega (arith, e.0, e.1)
+      ap (λ (s : Stats). span_of s) (stats_rows start rows k) ∙ omega (arith, e.0, e.1)
 
-  payload-own : payload_by (stats_of P) rows ≡ payload_of P
+  payload_own : payload_by (stats_of P) rows ≡ payload_of P
   unfolding payload_by payload_of tag_of
-  payload-own = rw (trimmed-own start rows k, trimmed-extent start rows k, span-own)
+  payload_own = rw (trimmed_own start rows k, trimmed_extent start rows k, span_own)
 
-  entry-own : (ordinal offset size : ℕ) → entry_by (stats_of P) (local_form (stats_of P)).tag ordinal offset size ≡ own_entry P ordinal offset size
+  entry_own : (ordinal offset size : ℕ) → entry_by (stats_of P) (local_form (stats_of P)).tag ordinal offset size ≡ own_entry P ordinal offset size
   unfolding entry_by stats_of first_of tag_of
-  entry-own ordinal offset size = rw (trimmed-extent start rows k, span-own)
+  entry_own ordinal offset size = rw (trimmed_extent start rows k, span_own)
 
   piece_own : {at i ordinal room : ℕ} → span_of (stats_of P) ≤ 65535 → ordinal ≤ 65535 → at + length (payload_of P) ≤ 65535 → at + length (payload_of P) ≤ room → i ≤ 65535 → directory_size i + 16 ≤ room → Piece (stats_of P) rows at i ordinal room
   unfolding stats_of
   piece_own short o all fits index entry =
-      let sound = covered-sound start rows k in
+      let sound = covered_sound start rows k in
       record {
         sound = sound;
         some = k.some;
         count = length_positions start rows;
-        rising = rising-ends k.rising span-own;
-        small = rw payload-own (record { ordered = sound.ordered; short = short; count = omega (arith, sound.inside); ordinals = o; offsets = omega arith; sizes = omega arith });
-        fits = rw payload-own fits;
+        rising = rising_ends k.rising span_own;
+        small = rw payload_own (record { ordered = sound.ordered; short = short; count = omega (arith, sound.inside); ordinals = o; offsets = omega arith; sizes = omega arith });
+        fits = rw payload_own fits;
         index = index;
         entry = entry;
       }
@@ -136,8 +136,8 @@ module _ {n : ℕ} {t : List ℕ} {start : ℕ} {rows : List ℕ} {m : ℕ} {bef
       abbrev size : ℕ
       size = length h.seg
 
-      abbrev next-rows : List ℕ
-      next-rows = take (length h.seg) (drop a rows)
+      abbrev next_rows : List ℕ
+      next_rows = take (length h.seg) (drop a rows)
 
       segment_is : segment_at segs i ≡ h.seg
       unfolding segment_at
@@ -149,22 +149,22 @@ module _ {n : ℕ} {t : List ℕ} {start : ℕ} {rows : List ℕ} {m : ℕ} {bef
       left : i < m
       left = omega (arith, ap length h.all, length-drop i segs, s.given.count)
 
-      rest-segments : drop (i + 1) segs ≡ h.segs
-      rest-segments = sym (drop-drop 1 i segs) ∙ ap (λ (us : List (List ℕ)). drop 1 us) h.all
+      rest_segments : drop (i + 1) segs ≡ h.segs
+      rest_segments = sym (drop-drop 1 i segs) ∙ ap (λ (us : List (List ℕ)). drop 1 us) h.all
 
       inside : a + size ≤ length rows
       inside = omega (arith, ap length h.cut, length-append h.seg h.rest, length_positions start (drop a rows), length-drop a rows, s.most)
 
-      part-own : positions_of start next-rows ≡ h.seg
-      part-own = positions_take start size (drop a rows) ∙ ap (λ (xs : List ℕ). take size xs) h.cut ∙ take_at h.seg h.rest size refl
+      part_own : positions_of start next_rows ≡ h.seg
+      part_own = positions_take start size (drop a rows) ∙ ap (λ (xs : List ℕ). take size xs) h.cut ∙ take_at h.seg h.rest size refl
 
-      rest-own : positions_of start (drop (a + size) rows) ≡ h.rest
-      rest-own = rw (← drop-drop size a rows) (positions_drop start size (drop a rows) ∙ ap (λ (xs : List ℕ). drop size xs) h.cut ∙ drop_at h.seg h.rest size refl)
+      rest_own : positions_of start (drop (a + size) rows) ≡ h.rest
+      rest_own = rw (← drop-drop size a rows) (positions_drop start size (drop a rows) ∙ ap (λ (xs : List ℕ). drop size xs) h.cut ∙ drop_at h.seg h.rest size refl)
 
-      part-covered : Covered start next-rows
-      part-covered = record {
-        some = omega (arith, h.some, ap length part-own, length_positions start next-rows);
-        rising = rising-take size (rising-drop a s.given.kept.covered.rising);
+      part_covered : Covered start next_rows
+      part_covered = record {
+        some = omega (arith, h.some, ap length part_own, length_positions start next_rows);
+        rising = rising_take size (rising_drop a s.given.kept.covered.rising);
       }
 
       -- the payload ends within the body
@@ -178,51 +178,51 @@ module _ {n : ℕ} {t : List ℕ} {start : ℕ} {rows : List ℕ} {m : ℕ} {bef
           omega (arith, s.laying.place, flat_length_step g i, flat_length_le g (suc i) (length segs) (omega arith), layout_length segs)
 
       module _ {u : Stats} (e : u ≡ stat_at t x) where
-        count-own : u.count ≡ size
+        count_own : u.count ≡ size
         unfolding stats_of
-        count-own = rw (e, h.stats)
+        count_own = rw (e, h.stats)
 
-        taken_own : take (a + u.count - a) (drop a rows) ≡ next-rows
-        taken_own = let d : a + u.count - a ≡ size = omega (arith, count-own) in ap (λ (k : ℕ). take k (drop a rows)) d
+        taken_own : take (a + u.count - a) (drop a rows) ≡ next_rows
+        taken_own = let d : a + u.count - a ≡ size = omega (arith, count_own) in ap (λ (k : ℕ). take k (drop a rows)) d
 
-        stats-own : u ≡ stats_of (positions_of start next-rows)
-        stats-own = e ∙ h.stats ∙ ap stats_of (sym part-own)
+        stats_own : u ≡ stats_of (positions_of start next_rows)
+        stats_own = e ∙ h.stats ∙ ap stats_of (sym part_own)
 
         piece_next : Piece u (take (a + u.count - a) (drop a rows)) at i a (length out)
         piece_next =
             let room : length out ≡ length before = laying_length _ _ _ _ s.laying in
             let g = s.given in
-            let f : at + length (payload_of (positions_of start next-rows)) ≤ length (segmented_layout segs) = rw part-own fits in
+            let f : at + length (payload_of (positions_of start next_rows)) ≤ length (segmented_layout segs) = rw part_own fits in
             let d = directory_room g in
             let l = left in
-            rw (taken_own, stats-own) (piece_own start next-rows part-covered (rw part-own h.short) (omega (arith, s.most, g.kept.few)) (omega (arith, g.short)) (omega (arith, g.fits)) (omega arith) (omega arith))
+            rw (taken_own, stats_own) (piece_own start next_rows part_covered (rw part_own h.short) (omega (arith, s.most, g.kept.few)) (omega (arith, g.short)) (omega (arith, g.fits)) (omega arith) (omega arith))
 
-        payload-is : payload_by u (take (a + u.count - a) (drop a rows)) ≡ payload_of h.seg
-        payload-is = rw (taken_own, stats-own) (payload-own start next-rows part-covered ∙ ap payload_of part-own)
+        payload_is : payload_by u (take (a + u.count - a) (drop a rows)) ≡ payload_of h.seg
+        payload_is = rw (taken_own, stats_own) (payload_own start next_rows part_covered ∙ ap payload_of part_own)
 
-        entry-is : entry_by u (local_form u).tag a at (length (payload_by u (take (a + u.count - a) (drop a rows)))) ≡ entry_for (entries_of segs) m i
+        entry_is : entry_by u (local_form u).tag a at (length (payload_by u (take (a + u.count - a) (drop a rows)))) ≡ entry_for (entries_of segs) m i
         unfolding entries_of payload_at
-        entry-is =
+        entry_is =
             let offset : directory_size m + total (entries_of segs).size i ≡ at = omega (arith, s.laying.place, flat-total (payload_at segs) (entries_of segs).size i (λ j l. refl)) in
-            rw (payload-is, stats-own) (entry-own start next-rows part-covered a at (length (payload_of h.seg)) ∙ ap (λ (xs : List ℕ). own_entry xs a at (length (payload_of h.seg))) part-own
+            rw (payload_is, stats_own) (entry_own start next_rows part_covered a at (length (payload_of h.seg)) ∙ ap (λ (xs : List ℕ). own_entry xs a at (length (payload_of h.seg))) part_own
             ∙ sym (ap (λ (xs : List ℕ). own_entry xs _ _ (length (payload_of xs))) segment_is ∙ ap₂ (λ (o f : ℕ). own_entry h.seg o f (length (payload_of h.seg))) s.sum offset))
 
         placed_next : {out' : List ℕ} {r : ℕ} → Placed (directory_size i) at (entry_by u (local_form u).tag a at (length (payload_by u (take (a + u.count - a) (drop a rows))))) (payload_by u (take (a + u.count - a) (drop a rows))) out out' r
             → Placing n t start rows m before (next t x) (i + 1) (a + u.count) r out'
         unfolding entries_of payload_at tag_of total
         placed_next {out'} {r} p =
-            let payload : payload_by u (take (a + u.count - a) (drop a rows)) ≡ payload_at segs i = payload-is ∙ ap payload_of (sym segment_is) in
-            let placed : Placed (directory_size i) at (entry_for (entries_of segs) m i) (payload_at segs i) out out' r = placed_same entry-is payload p in
+            let payload : payload_by u (take (a + u.count - a) (drop a rows)) ≡ payload_at segs i = payload_is ∙ ap payload_of (sym segment_is) in
+            let placed : Placed (directory_size i) at (entry_for (entries_of segs) m i) (payload_at segs i) out out' r = placed_same entry_is payload p in
             record {
               given = s.given;
-              rest = rw (count-own, rest-own, rest-segments) h.held;
-              most = omega (arith, count-own, inside);
-              sum = rw (add-one i) (omega (arith, s.sum, count-own, ap length segment_is));
+              rest = rw (count_own, rest_own, rest_segments) h.held;
+              most = omega (arith, count_own, inside);
+              sum = rw (add-one i) (omega (arith, s.sum, count_own, ap length segment_is));
               laying = laying_next (entries_of segs) (payload_at segs) m before s.laying left (tag_small (segment_at segs i)) placed;
             }
 
     pub turn_inside : {u : Stats} → x < n → u ≡ stat_at t x → a + u.count ≤ length rows
-    turn_inside l e = let h = ahead l s.rest in omega (arith, count-own h e, inside h)
+    turn_inside l e = let h = ahead l s.rest in omega (arith, count_own h e, inside h)
 
     pub turn_asks : {u : Stats} → x < n → u ≡ stat_at t x → Piece u (take (a + u.count - a) (drop a rows)) at i a (length out)
     turn_asks l e = piece_next (ahead l s.rest) e

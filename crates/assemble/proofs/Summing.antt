@@ -10,53 +10,53 @@ use lib.ListN.{length, length-append}
 use borrow.Author.Tests.{le-leb, lt-leb}
 use Rattle.model.proofs.Tests.{pick_true, pick_false, order}
 use Rattle.model.specs.Lists.{Rising}
-use Rattle.model.proofs.Rising.{rising-append, rising_split}
+use Rattle.model.proofs.Rising.{rising_append, rising_split}
 use Rattle.stats.specs.declared.Stats.{Stats}
 use Rattle.stats.specs.Statistics.{stats_of, span_of, holes_of, Sound}
-use Rattle.stats.proofs.Joining.{stats-append, stats-sound, stats_neighbours}
+use Rattle.stats.proofs.Joining.{stats_append, stats_sound, stats_neighbours}
 use Rattle.cost.specs.declared.Form.{Form}
 use Rattle.cost.specs.Sizes.{depth_of}
 use Rattle.cost.specs.Forms.{local_form, items_form, bitmap_form, dense_form}
 use Rattle.cost.proofs.Depths.{depth_least}
-use Rattle.cost.proofs.Least.{local-short}
-use Rattle.cost.proofs.Chosen.{Local, dense, list, runs, missing, bitmap, local-chosen}
+use Rattle.cost.proofs.Least.{local_short}
+use Rattle.cost.proofs.Chosen.{Local, dense, list, runs, missing, bitmap, local_chosen}
 use Rattle.links.specs.Tables.{next, stat_at}
 use Rattle.planning.specs.Segments.{stats_each}
 use Rattle.planning.specs.Bodies.{payloads, larger, deepest, widest, segmented_form}
 use Rattle.planning.specs.Held.{Held}
 use Rattle.assemble.specs.declared.Tally.{Tally}
 use Rattle.assemble.specs.Sums.{one, also, finished, Bounded, Adds, Known, Summed}
-use Rattle.planning.proofs.Sized.{length-each}
-use Rattle.assemble.proofs.Records.{same-each, same_rows, Ahead, ahead, behind, within}
+use Rattle.planning.proofs.Sized.{length_each}
+use Rattle.assemble.proofs.Records.{same_each, same_rows, Ahead, ahead, behind, within}
 
 -- ---- the larger of two
 
-pub larger-right : {a b : ℕ} → a ≤ b → larger a b ≡ b
+pub larger_right : {a b : ℕ} → a ≤ b → larger a b ≡ b
 unfolding larger
-larger-right {a} {b} h = pick_true b a (le-leb a b h)
+larger_right {a} {b} h = pick_true b a (le-leb a b h)
 
-pub larger-left : {a b : ℕ} → b < a → larger a b ≡ a
+pub larger_left : {a b : ℕ} → b < a → larger a b ≡ a
 unfolding larger
-larger-left {a} {b} h = pick_false b a (lt-leb a b h)
+larger_left {a} {b} h = pick_false b a (lt-leb a b h)
 
 larger_zero : (a : ℕ) → larger a 0 ≡ a
-larger_zero a = ⊎_elim (λ l. larger-left l) (λ l. larger-right l ∙ omega arith) (order 0 a)
+larger_zero a = ⊎_elim (λ l. larger_left l) (λ l. larger_right l ∙ omega arith) (order 0 a)
 
 larger_assoc : (a b c : ℕ) → larger a (larger b c) ≡ larger (larger a b) c
 larger_assoc a b c =
     ⊎_elim
     (λ (p : b < a). ⊎_elim
-    (λ (q : c < b). rw (larger-left q, larger-left p) (sym (larger-left (omega arith))))
-    (λ (q : b ≤ c). rw (larger-right q, larger-left p))
+    (λ (q : c < b). rw (larger_left q, larger_left p) (sym (larger_left (omega arith))))
+    (λ (q : b ≤ c). rw (larger_right q, larger_left p))
     (order c b))
     (λ (p : a ≤ b). ⊎_elim
-    (λ (q : c < b). rw (larger-left q, larger-right p) (sym (larger-left q)))
-    (λ (q : b ≤ c). let w : a ≤ c = omega arith in rw (larger-right q, larger-right w, larger-right p) (sym (larger-right q)))
+    (λ (q : c < b). rw (larger_left q, larger_right p) (sym (larger_left q)))
+    (λ (q : b ≤ c). let w : a ≤ c = omega arith in rw (larger_right q, larger_right w, larger_right p) (sym (larger_right q)))
     (order c b))
     (order b a)
 
-larger-most : {a b m : ℕ} → a ≤ m → b ≤ m → larger a b ≤ m
-larger-most {a} {b} h l = ⊎_elim (λ (q : b < a). rw (larger-left q) h) (λ (q : a ≤ b). rw (larger-right q) l) (order b a)
+larger_most : {a b m : ℕ} → a ≤ m → b ≤ m → larger a b ≤ m
+larger_most {a} {b} h l = ⊎_elim (λ (q : b < a). rw (larger_left q) h) (λ (q : a ≤ b). rw (larger_right q) l) (order b a)
 
 -- ---- the depth of a local form over 65,535 positions
 
@@ -71,8 +71,8 @@ local_depth {s} o h runs = shallow s.runs (omega (arith, o.few, o.inside))
 local_depth {s} o h missing = shallow (holes_of s) (omega arith)
 local_depth {s} o h bitmap = shallow _ (omega arith)
 
-pub form-short : (s : Stats) {f : Form} → span_of s ≤ 65535 → f ≡ local_form s → f.bytes ≤ 8704
-form-short s h e = rw e (local-short s h)
+pub form_short : (s : Stats) {f : Form} → span_of s ≤ 65535 → f ≡ local_form s → f.bytes ≤ 8704
+form_short s h e = rw e (local_short s h)
 
 -- ---- the walk
 
@@ -105,11 +105,11 @@ module _ {n : ℕ} {t : List ℕ} where
   first : (k : Known n t) → Ahead n t 0 k.rows k.segs
   first k = ahead (⊎_elim (λ l. l) (λ g. absurd (omega (arith, k.some, ap length (behind g k.held).1))) (order 0 n)) k.held
 
-  pub first-sound : Known n t → Sound (stat_at t 0)
-  first-sound k =
+  pub first_sound : Known n t → Sound (stat_at t 0)
+  first_sound k =
       let a = first k in
       let q = rising_split a.seg a.rest (omega arith) (rw a.cut at k.rising) in
-      rw a.stats (stats-sound q.front a.some q.high)
+      rw a.stats (stats_sound q.front a.some q.high)
 
   begun_by : (k : Known n t) → Ahead n t 0 k.rows k.segs → Summing n t (next t 0) (one (stat_at t 0))
   unfolding one stats_each payloads deepest widest
@@ -136,8 +136,8 @@ module _ {n : ℕ} {t : List ℕ} where
         depth = rw (a.all, a.stats);
         words = rw (a.all, a.stats);
         few = omega (arith, a.on);
-        size = omega (arith, local-short (stat_at t 0) short);
-        low = local_depth (first-sound k) short (local-chosen (stat_at t 0));
+        size = omega (arith, local_short (stat_at t 0) short);
+        low = local_depth (first_sound k) short (local_chosen (stat_at t 0));
       }
 
   pub begun : Known n t → Summing n t (next t 0) (one (stat_at t 0))
@@ -170,17 +170,17 @@ module _ {n : ℕ} {t : List ℕ} where
           cut = s.cut ∙ rw (a.cut, append_assoc);
           some = omega (arith, s.some, length-append s.gone a.seg);
           mid = q.mid;
-          passed = rising-append (omega arith) q.low s.passed q.front;
+          passed = rising_append (omega arith) q.low s.passed q.front;
           ahead = q.back;
           inside = q.high;
-          stats = rw (s.stats, a.stats) (sym (stats-append s.gone a.seg s.some a.some));
+          stats = rw (s.stats, a.stats) (sym (stats_append s.gone a.seg s.some a.some));
           count = s.count ∙ rw a.all (omega arith);
           bytes = s.bytes ∙ rw (a.all, a.stats) (omega arith);
           depth = s.depth ∙ rw (a.all, a.stats) (larger_assoc y.depth _ _);
           words = s.words ∙ rw (a.all, a.stats) (larger_assoc y.words _ _);
           few = omega (arith, s.few, a.on);
-          size = omega (arith, s.size, local-short (stat_at t x) d.short);
-          low = larger-most s.low (local_depth d.pair.right d.short (local-chosen (stat_at t x)));
+          size = omega (arith, s.size, local_short (stat_at t x) d.short);
+          low = larger_most s.low (local_depth d.pair.right d.short (local_chosen (stat_at t x)));
         }
 
     pub added : n < 65536 → x < n → Summing n t (next t x) (also y (stat_at t x))
@@ -194,13 +194,13 @@ module _ {n : ℕ} {t : List ℕ} where
     unfolding finished segmented_form stats_each payloads deepest widest
     summed l =
         let none = behind l s.held in
-        let count : length (stats_each s.segs) ≡ y.segments = length-each s.segs ∙ s.count ∙ rw none.1 (omega arith) in
+        let count : length (stats_each s.segs) ≡ y.segments = length_each s.segs ∙ s.count ∙ rw none.1 (omega arith) in
         let bytes : payloads (stats_each s.segs) ≡ y.bytes = s.bytes ∙ rw none.1 (omega arith) in
         let depth : deepest (stats_each s.segs) ≡ y.depth = s.depth ∙ rw none.1 (larger_zero y.depth) in
         let words : widest (stats_each s.segs) ≡ y.words = s.words ∙ rw none.1 (larger_zero y.words) in
         let rows : stats_of s.rows ≡ y.stats = rw (s.cut, none.0, append-nil) (sym s.stats) in
         record {
-          segments = λ xs segs h. sym (sym (length-each segs) ∙ rw (same-each h s.whole) count);
-          form = λ xs segs h. rw (same-each h s.whole, count, bytes, depth, words);
+          segments = λ xs segs h. sym (sym (length_each segs) ∙ rw (same_each h s.whole) count);
+          form = λ xs segs h. rw (same_each h s.whole, count, bytes, depth, words);
           stats = λ xs segs h. sym (same_rows h s.whole ∙ rows);
         }

@@ -38,9 +38,9 @@ evens_span = refl
 apart : List ℕ
 apart = 0 ∷ 0 ∷ 1 ∷ 0 ∷ 1 ∷ 0 ∷ 1 ∷ 0 ∷ (32 ∷ replicate 95 0) ++ (1 ∷ replicate 7 0)
 
-apart-accepted : bitmap_accepts apart 769 2 ≡ true
+apart_accepted : bitmap_accepts apart 769 2 ≡ true
 unfolding apart bitmap_accepts both counted all exact entry le bits_from named
-apart-accepted = refl
+apart_accepted = refl
 
 -- ordinal 1 is in the last of the equal groups
 apart_last : bitmap_select apart 769 1 ≡ 768

@@ -4,8 +4,8 @@ use Rattle.std.proofs.Common.{◌≡◌, ℕ, ◌+◌, ◌-◌, ◌*◌, ◌/◌
 use Rattle.fields.specs.Le.{Bytes, le}
 use Rattle.model.specs.Tests.{both, all}
 use Rattle.model.specs.Lists.{counted}
-use Rattle.model.proofs.Counted.{and_both, both_pass, Count, counted-right, counted-count}
-use Rattle.model.proofs.Tests.{all-step, all-at, all_from, both_left, both_right, both_true, both_first, both-second}
+use Rattle.model.proofs.Counted.{and_both, both_pass, Count, counted_right, counted_count}
+use Rattle.model.proofs.Tests.{all_step, all_at, all_from, both_left, both_right, both_true, both_first, both_second}
 use Rattle.search.specs.Search.{entry}
 use Rattle.word.specs.Bits.{bits_from}
 use Rattle.word.proofs.Numbers.{pow_test}
@@ -13,9 +13,9 @@ use Rattle.bitmap.specs.Body.{words_of, groups_of, bitmap_length, number, word_o
 use Rattle.bitmap.specs.Reading.{Between}
 use Rattle.bitmap.proofs.Words.{number_lt, word, before_group, before_past}
 
-pub stated-at : (xs : List ℕ) (g : ℕ) → le 2 xs (2 * g) ≡ stated xs g
+pub stated_at : (xs : List ℕ) (g : ℕ) → le 2 xs (2 * g) ≡ stated xs g
 unfolding entry
-stated-at xs g = rw (zero-add, mul_comm g 2)
+stated_at xs g = rw (zero-add, mul_comm g 2)
 
 -- g groups are tested, and their rows counted
 pub record Counting (xs : List ℕ) (s n : ℕ) (ok : Bool) (g : ℕ) : Type 0 where
@@ -36,7 +36,7 @@ module _ (xs : List ℕ) (bytes : Bytes xs) (s : ℕ) where
       let sum : before xs s (256 * g) + m ≡ before xs s (64 * min (4 * g + 4) (words_of s)) = rw (e, ej) at b.sum in
       record {
         inside = omega arith;
-        flag = rw (and_both, all-step, c.flag, c.rows, ex, stated-at);
+        flag = rw (and_both, all_step, c.flag, c.rows, ex, stated_at);
         rows = rw c.rows (sum ∙ before_group xs bytes s g);
       }
 
@@ -75,16 +75,16 @@ module _ (xs : List ℕ) (s n : ℕ) where
 
   pub refuse_count : counted s n ≡ false → false ≡ bitmap_accepts xs s n
   unfolding bitmap_accepts
-  refuse_count h = sym (both-second _ _ (both_first _ _ h))
+  refuse_count h = sym (both_second _ _ (both_first _ _ h))
 
   pub refuse_past : ltb (number xs s) (2 ^ s) ≡ false → false ≡ bitmap_accepts xs s n
   unfolding bitmap_accepts
-  refuse_past h = sym (both-second _ _ (both-second _ _ (both_first _ _ h)))
+  refuse_past h = sym (both_second _ _ (both_second _ _ (both_first _ _ h)))
 
   pub accept_rest : {r : Bool} → length xs ≡ bitmap_length s → Count s n → ltb (number xs s) (2 ^ s) ≡ true
       → r ≡ both (all (exact xs s) (groups_of s)) (eqb (length (bitmap_names xs s)) n) → r ≡ bitmap_accepts xs s n
   unfolding bitmap_accepts
-  accept_rest l c h e = both_pass (eq-eqb _ _ l) (both_pass (counted-right s n c) (both_pass h e))
+  accept_rest l c h e = both_pass (eq-eqb _ _ l) (both_pass (counted_right s n c) (both_pass h e))
 
 -- ---- what acceptance gives
 
@@ -103,9 +103,9 @@ ok_parts xs s n e1 =
     let e4 = both_right _ _ e3 in
     record {
       sized = eqb-true _ _ (both_left _ _ e1);
-      count = counted-count s n (both_left _ _ e2);
+      count = counted_count s n (both_left _ _ e2);
       short = ltb-true _ _ (both_left _ _ e3);
-      right = λ g h. eqb-true _ _ (all-at (exact xs s) (groups_of s) (both_left _ _ e4) g h);
+      right = λ g h. eqb-true _ _ (all_at (exact xs s) (groups_of s) (both_left _ _ e4) g h);
       rows = eqb-true _ _ (both_right _ _ e4);
     }
 

@@ -4,18 +4,18 @@ use Rattle.std.proofs.Common.{◌≡◌, ℕ, ◌+◌, ◌*◌, ◌^◌, ◌<◌
 use Rattle.fields.specs.Le.{Bytes, le, digits}
 use Rattle.fields.proofs.Laws.{length_digits, le-digits, digits_le}
 use Rattle.fields.proofs.Binary.{pow_bytes}
-use Rattle.fields.proofs.Tables.{le-first, le-second, table, table_length, table_at, pieces}
+use Rattle.fields.proofs.Tables.{le_first, le_second, table, table_length, table_at, pieces}
 use Rattle.model.specs.Tests.{flat}
 use Rattle.model.specs.Lists.{Rising, below}
 use Rattle.model.proofs.Tests.{flat-same}
-use Rattle.model.proofs.Rising.{rising_wider, rising-room}
-use Rattle.model.proofs.Standing.{below-most}
+use Rattle.model.proofs.Rising.{rising_wider, rising_room}
+use Rattle.model.proofs.Standing.{below_most}
 use Rattle.word.specs.Bits.{bits_from, num_from}
 use Rattle.word.proofs.Places.{below_bits}
 use Rattle.word.proofs.Numbers.{num_bits, num_lt, bits_num}
 use Rattle.bitmap.specs.Body.{words_of, groups_of, bitmap_length, number, stated, before, bitmap_names, bitmap_accepts, bitmap_layout}
 use Rattle.bitmap.proofs.Words.{number_lt}
-use Rattle.bitmap.proofs.Groups.{stated-at, ok_parts, parts_ok}
+use Rattle.bitmap.proofs.Groups.{stated_at, ok_parts, parts_ok}
 
 -- ---- a list that fits
 
@@ -41,7 +41,7 @@ module _ (s : ℕ) (rows : List ℕ) (rising : Rising 0 s rows) where
       let e : length heads ≡ 2 * groups_of s = omega (arith, table_length 2 stating (groups_of s)) in
       let f : 8 * (8 * words_of s) ≡ 64 * words_of s = omega arith in
       let l : num_from 0 rows < 256 ^ (8 * words_of s) = rw (pow_bytes, f) (num_lt (64 * words_of s) 0 rows wide) in
-      rw add-zero at (le-second (8 * words_of s) heads words (2 * groups_of s) 0 e) ∙ le-digits (8 * words_of s) (num_from 0 rows) ∙ mod-eq_of_lt l
+      rw add-zero at (le_second (8 * words_of s) heads words (2 * groups_of s) 0 e) ∙ le-digits (8 * words_of s) (num_from 0 rows) ∙ mod-eq_of_lt l
 
   -- the layout names the list
   pub layout_names : bitmap_names body s ≡ rows
@@ -56,9 +56,9 @@ module _ (s : ℕ) (rows : List ℕ) (rising : Rising 0 s rows) where
   laid_group few g h =
       let heads = table 2 stating (groups_of s) in
       let e : g * 2 ≡ 2 * g = omega arith in
-      let l : stating g < 256 ^ 2 = omega (arith, below-most rows (256 * g)) in
+      let l : stating g < 256 ^ 2 = omega (arith, below_most rows (256 * g)) in
       let b : stating g ≡ before body s (256 * g) = rw (laid_number, ← below_bits (64 * words_of s) (256 * g) (num_from 0 rows) (omega arith), named) in
-      sym (stated-at body g) ∙ le-first 2 heads (digits (8 * words_of s) (num_from 0 rows)) (2 * g) (omega (arith, table_length 2 stating (groups_of s)))
+      sym (stated_at body g) ∙ le_first 2 heads (digits (8 * words_of s) (num_from 0 rows)) (2 * g) (omega (arith, table_length 2 stating (groups_of s)))
       ∙ rw e at (table_at 2 stating (groups_of s) g h) ∙ mod-eq_of_lt l ∙ b
 
   -- and is accepted
@@ -66,7 +66,7 @@ module _ (s : ℕ) (rows : List ℕ) (rising : Rising 0 s rows) where
   layout_accepted some few =
       parts_ok body s (length rows) (record {
         sized = laid_length;
-        count = record { some = some; within = omega (arith, rising-room (omega arith) rising); most = few };
+        count = record { some = some; within = omega (arith, rising_room (omega arith) rising); most = few };
         short = rw laid_number (num_lt s 0 rows (rw zero-add rising));
         right = laid_group few;
         rows = ap length layout_names;
@@ -82,7 +82,7 @@ module _ (xs : List ℕ) (bytes : Bytes xs) (s n : ℕ) (ok : bitmap_accepts xs 
   head g h =
       let p = ok_parts xs s n ok in
       let e : 2 * g ≡ g * 2 = omega arith in
-      let b : below (bitmap_names xs s) (256 * g) ≡ le 2 xs (g * 2) = below_bits (64 * words_of s) (256 * g) (number xs s) (omega arith) ∙ sym (p.right g h) ∙ rw (← e) (sym (stated-at xs g)) in
+      let b : below (bitmap_names xs s) (256 * g) ≡ le 2 xs (g * 2) = below_bits (64 * words_of s) (256 * g) (number xs s) (omega arith) ∙ sym (p.right g h) ∙ rw (← e) (sym (stated_at xs g)) in
       rw b (digits_le 2 xs (g * 2) bytes (omega (arith, p.sized)))
 
   -- it is the layout of what it names

@@ -5,16 +5,16 @@ use lib.Seq.{drop-append-add}
 use Rattle.fields.specs.Le.{Bytes, le}
 use Rattle.model.specs.Tests.{pick}
 use Rattle.search.specs.Search.{up_to}
-use Rattle.search.proofs.Laws.{find-within}
+use Rattle.search.proofs.Laws.{find_within}
 use Rattle.word.specs.Bits.{bits_from, bits_of}
 use Rattle.bitmap.specs.Body.{words_of, groups_of, number, word_of, stated, before}
 use Rattle.bitmap.specs.Reading.{from, group_rows, group_for, in_group, bitmap_rest, Spotted}
 use Rattle.bitmap.proofs.Words.{between, before_mono, before_word, before_past, before_group, from_cut}
-use Rattle.bitmap.proofs.Groups.{stated-at}
+use Rattle.bitmap.proofs.Groups.{stated_at}
 
 module _ (xs : List ℕ) (s k : ℕ) where
   pub group_in : 0 < s → group_for xs s k < groups_of s
-  group_in h = omega (arith, find-within (up_to false (stated xs) k) (groups_of s))
+  group_in h = omega (arith, find_within (up_to false (stated xs) k) (groups_of s))
 
   -- how many rows group g has
   pub group_rows_lem : (g : ℕ) → before xs s (256 * g) + length (group_rows xs s g) ≡ before xs s (256 * (g + 1))
@@ -22,9 +22,9 @@ module _ (xs : List ℕ) (s k : ℕ) where
       let e : 256 * (g + 1) - 256 * g ≡ 256 = omega arith in
       rw e at (between xs s (256 * g) (256 * (g + 1)) (omega arith))
 
-  pub rest-none : length (group_rows xs s (group_for xs s k)) ≤ in_group xs s k → bitmap_rest xs s k ≡ []
+  pub rest_none : length (group_rows xs s (group_for xs s k)) ≤ in_group xs s k → bitmap_rest xs s k ≡ []
   unfolding bitmap_rest pick
-  rest-none h = rw (le-ltb _ _ h)
+  rest_none h = rw (le-ltb _ _ h)
 
   pub rest_some : in_group xs s k < length (group_rows xs s (group_for xs s k)) → bitmap_rest xs s k ≡ drop (in_group xs s k) (from xs s (256 * group_for xs s k))
   unfolding bitmap_rest pick
@@ -41,7 +41,7 @@ module _ (xs : List ℕ) (s k : ℕ) where
   pub locating_start : {g end st left : ℕ} → 0 < s → g ≡ group_for xs s k → end ≡ min (4 * g + 4) (words_of s) → st ≡ le 2 xs (2 * g) → left ≡ k - st → Locating g end left (4 * g)
   locating_start {g} {end} {st} {left} h eg ee est el =
       let e : 64 * (4 * g) ≡ 256 * g = omega arith in
-      let q : left ≡ in_group xs s k = el ∙ rw (est, stated-at, eg) in
+      let q : left ≡ in_group xs s k = el ∙ rw (est, stated_at, eg) in
       record { group = eg; stop = ee; begun = omega arith; inside = omega (arith, group_in h); sum = rw (e, q) }
 
   module _ (bytes : Bytes xs) where
@@ -50,7 +50,7 @@ module _ (xs : List ℕ) (s k : ℕ) where
         let g = group_for xs s k in
         record {
           found = λ h. absurd (omega arith);
-          none = λ h. rest-none (omega (arith, group_rows_lem g, before_past xs bytes s (256 * g) (omega arith), before_past xs bytes s (256 * (g + 1)) (omega arith)));
+          none = λ h. rest_none (omega (arith, group_rows_lem g, before_past xs bytes s (256 * g) (omega arith), before_past xs bytes s (256 * (g + 1)) (omega arith)));
         }
 
     module _ {g end left i : ℕ} (l : Locating g end left i) where
@@ -81,4 +81,4 @@ module _ (xs : List ℕ) (s k : ℕ) where
           let e : i ≡ min (4 * G + 4) (words_of s) = rw l.group at f in
           let sum : before xs s (64 * i) + left ≡ before xs s (256 * G) + in_group xs s k = rw l.group at l.sum in
           let b : before xs s (64 * i) ≡ before xs s (256 * (G + 1)) = rw e (before_group xs bytes s G) in
-          record { found = λ o. absurd (omega arith); none = λ _. rest-none (omega (arith, group_rows_lem G)) }
+          record { found = λ o. absurd (omega arith); none = λ _. rest_none (omega (arith, group_rows_lem G)) }

@@ -12,7 +12,7 @@ use Rattle.word.proofs.Places.{has_bits, digit_mod}
 use Rattle.bitmap.specs.Body.{words_of, number, word_of, stated, before, bitmap_names}
 use Rattle.bitmap.specs.Reading.{bitmap_below, bitmap_place, Between}
 use Rattle.bitmap.proofs.Words.{word, before_in}
-use Rattle.bitmap.proofs.Groups.{stated-at}
+use Rattle.bitmap.proofs.Groups.{stated_at}
 
 -- ---- place
 
@@ -60,5 +60,5 @@ below_at xs bytes {w} {st} {m} {r} s p h est b ew er =
     let f : 64 * (4 * (p / 256)) ≡ 256 * (p / 256) = omega arith in
     let sum : before xs s (256 * (p / 256)) + m ≡ before xs s (64 * (p / 64)) = rw (q, f) at b.sum in
     let ins : before xs s p ≡ before xs s (64 * (p / 64)) + r = rw (er, ew, ← before_in xs bytes s (p / 64) (p % 64) (omega arith) (omega arith), e) in
-    let est' : st ≡ stated xs (p / 256) = est ∙ rw q (stated-at xs (p / 256)) in
+    let est' : st ≡ stated xs (p / 256) = est ∙ rw q (stated_at xs (p / 256)) in
     omega arith

@@ -6,9 +6,9 @@ use lib.Seq.{take-nil, drop-append-le}
 use Rattle.fields.specs.Le.{Bytes}
 use Rattle.model.specs.Lists.{shift, moved}
 use Rattle.model.specs.Answers.{Walked}
-use Rattle.model.proofs.Append.{length_shift, get_d_shift, shift-drop}
+use Rattle.model.proofs.Append.{length_shift, get_or-shift, shift-drop}
 use Rattle.model.proofs.Taking.{drop_past}
-use Rattle.model.proofs.Writing.{Filled, filled_start, filled_more, filled_end, walks-none}
+use Rattle.model.proofs.Writing.{Filled, filled_start, filled_more, filled_end, walks_none}
 use Rattle.word.specs.Bits.{bits_from, bits_of}
 use Rattle.word.proofs.Bits.{bits_zero, bits_moved}
 use Rattle.bitmap.specs.Body.{words_of, word_of}
@@ -46,9 +46,9 @@ module _ (xs : List ℕ) (s i₀ w₀ i w : ℕ) (t : Settling xs s i₀ w₀ i 
 
 -- ---- the first row of a word that is not
 
-rest-first : (xs : List ℕ) (s i v place rest : ℕ) → bits_of v ≡ place ∷ bits_of rest → rest_of xs s i v ≡ (64 * i + place) ∷ rest_of xs s i rest
+rest_first : (xs : List ℕ) (s i v place rest : ℕ) → bits_of v ≡ place ∷ bits_of rest → rest_of xs s i v ≡ (64 * i + place) ∷ rest_of xs s i rest
 unfolding shift
-rest-first xs s i v place rest e = rw (bits_moved 64 (64 * i) v, e, bits_moved 64 (64 * i) rest)
+rest_first xs s i v place rest e = rw (bits_moved 64 (64 * i) v, e, bits_moved 64 (64 * i) rest)
 
 -- ---- the spot of an ordinal
 
@@ -73,7 +73,7 @@ module _ (xs : List ℕ) (bytes : Bytes xs) (s k : ℕ) (spot : Spot) (found : S
       let l : 0 < length (drop spot.left (bits_from 64 (64 * spot.index) row)) = rw length-drop (omega (arith, spot_left, row_length)) in
       sym (rw spot_rest (get_or-append (drop spot.left (bits_from 64 (64 * spot.index) row)) (from xs s (64 * (spot.index + 1))) 0 0 l
       ∙ get_or-drop spot.left (bits_from 64 (64 * spot.index) row) 0 0
-      ∙ rw (add-zero, bits_moved) (get_d_shift (64 * spot.index) (bits_of row) spot.left spot_left ∙ rw (er, ew))))
+      ∙ rw (add-zero, bits_moved) (get_or-shift (64 * spot.index) (bits_of row) spot.left spot_left ∙ rw (er, ew))))
 
   pub spot_walk : (w v : ℕ) → w ≡ row → bits_of v ≡ drop spot.left (bits_of w) → rest_of xs s spot.index v ≡ bitmap_rest xs s k
   spot_walk w v ew ev =
@@ -84,7 +84,7 @@ no_select xs s k e = rw e
 
 pub no_walk : (xs : List ℕ) (s k base : ℕ) (old : List ℕ) → bitmap_rest xs s k ≡ [] → Walked (bitmap_walk xs s k base (length old)) old old 0
 unfolding moved
-no_walk xs s k base old e = walks-none old (rw (e, take-nil))
+no_walk xs s k base old e = walks_none old (rw (e, take-nil))
 
 -- ---- writing
 
@@ -109,7 +109,7 @@ module _ (xs : List ℕ) (s : ℕ) (rows : List ℕ) (base : ℕ) (old : List �
   filling_next new n i word j v place left f h c e =
       let x = 64 * j + place in
       let t = rest_of xs s j left in
-      let d : drop n rows ≡ x ∷ t = sym f.rest ∙ sym c.same ∙ rest-first xs s j v place left e in
+      let d : drop n rows ≡ x ∷ t = sym f.rest ∙ sym c.same ∙ rest_first xs s j v place left e in
       record {
         inside = c.inside;
         filled = rw zero-add at (filled_more f.filled (x ∷ []) t d (omega arith));

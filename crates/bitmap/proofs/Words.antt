@@ -2,7 +2,7 @@
 -- Assumes nothing.
 use Rattle.std.proofs.Common.{◌≡◌, ℕ, ◌+◌, ◌-◌, ◌*◌, ◌/◌, ◌%◌, ◌^◌, ◌<◌, ◌≤◌, min, List, ◌++◌, length, sym, ap, ◌∙◌, ⊎_elim, zero-add, arith, length-append, shr-shr}
 use Rattle.fields.specs.Le.{Bytes}
-use Rattle.fields.proofs.Binary.{le_lt, le-high, le_low}
+use Rattle.fields.proofs.Binary.{le_lt, le_high, le_low}
 use Rattle.model.proofs.Tests.{order}
 use Rattle.word.specs.Bits.{bits_from, bits_of}
 use Rattle.word.proofs.Bits.{bits_cat, bits_cut, bits_mod, bits_count, bits_short, bits_most}
@@ -12,8 +12,8 @@ use Rattle.bitmap.specs.Reading.{from, rest_of, Between}
 -- ---- on any list of numbers
 
 module _ (xs : List ℕ) (s : ℕ) where
-  pub before-most : (p : ℕ) → before xs s p ≤ p
-  before-most p = bits_most p 0 (number xs s)
+  pub before_most : (p : ℕ) → before xs s p ≤ p
+  before_most p = bits_most p 0 (number xs s)
 
   -- the rows from p up to q
   pub between : (p q : ℕ) → p ≤ q → before xs s p + length (bits_from (q - p) p (number xs s / 2 ^ p)) ≡ before xs s q
@@ -32,8 +32,8 @@ module _ (xs : List ℕ) (s : ℕ) where
       let f : 64 * words_of s - p - (q - p) ≡ 64 * words_of s - q = omega arith in
       bits_cut (64 * words_of s - p) (q - p) p (number xs s / 2 ^ p) le ∙ rw (shr-shr (number xs s) p (q - p), e, f)
 
-  pub names-cut : (p : ℕ) → p ≤ 64 * words_of s → bitmap_names xs s ≡ bits_from p 0 (number xs s) ++ from xs s p
-  names-cut p h = bits_cut (64 * words_of s) p 0 (number xs s) h ∙ rw (zero-add p)
+  pub names_cut : (p : ℕ) → p ≤ 64 * words_of s → bitmap_names xs s ≡ bits_from p 0 (number xs s) ++ from xs s p
+  names_cut p h = bits_cut (64 * words_of s) p 0 (number xs s) h ∙ rw (zero-add p)
 
   -- nothing is counted yet
   pub between_none : (i : ℕ) → Between xs s i i 0
@@ -51,7 +51,7 @@ module _ (xs : List ℕ) (bytes : Bytes xs) (s : ℕ) where
   word i h =
       let e : 64 * i ≡ 8 * (8 * i) = omega arith in
       let h8 : 8 * i ≤ 8 * words_of s = omega arith in
-      rw (e, le-high xs bytes (8 * words_of s) (8 * i) (2 * groups_of s) h8) (le_low xs bytes (8 * words_of s - 8 * i) 8 (2 * groups_of s + 8 * i) (omega arith))
+      rw (e, le_high xs bytes (8 * words_of s) (8 * i) (2 * groups_of s) h8) (le_low xs bytes (8 * words_of s - 8 * i) 8 (2 * groups_of s + 8 * i) (omega arith))
 
   pub word_bits : (i k p : ℕ) → i < words_of s → k ≤ 64 → bits_from k p (number xs s / 2 ^ (64 * i)) ≡ bits_from k p (word_of xs s i)
   word_bits i k p h l =

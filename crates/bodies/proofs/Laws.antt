@@ -29,16 +29,16 @@ module _ (tag span : ℕ) (xs : List ℕ) where
   unfolding accepts pick
   accepts_nine e = rw e
 
-  pub accepts-other : (tag ≡ 9 → ⊥) → accepts tag span xs ≡ single_accepts tag span xs
-  accepts-other n = tested span xs tag n
+  pub accepts_other : (tag ≡ 9 → ⊥) → accepts tag span xs ≡ single_accepts tag span xs
+  accepts_other n = tested span xs tag n
 
   pub names_nine : tag ≡ 9 → names tag span xs ≡ segmented_names xs
   unfolding names
   names_nine e = pick_true _ _ (eq-eqb tag 9 e)
 
-  pub names-other : (tag ≡ 9 → ⊥) → names tag span xs ≡ single_names tag span xs
+  pub names_other : (tag ≡ 9 → ⊥) → names tag span xs ≡ single_names tag span xs
   unfolding names
-  names-other n = pick_false _ _ (ne_eqb tag 9 n)
+  names_other n = pick_false _ _ (ne_eqb tag 9 n)
 
   module _ (ok : accepts tag span xs ≡ true) where
     -- ---- tag 9
@@ -58,7 +58,7 @@ module _ (tag span : ℕ) (xs : List ℕ) where
     -- ---- every other tag
     module _ (n : tag ≡ 9 → ⊥) where
       pub other : single_accepts tag span xs ≡ true
-      other = sym (accepts-other n) ∙ ok
+      other = sym (accepts_other n) ∙ ok
 
       pub other_header : header_of tag ≤ length xs
       other_header = accepted_header tag span xs other
@@ -71,29 +71,29 @@ module _ (tag span : ℕ) (xs : List ℕ) where
         other_readable = rw q (parts_readable (view_of tag span xs) span xs parts)
 
         module _ (b : Bytes xs) where
-          pub other-count : v.count ≡ length (names tag span xs)
+          pub other_count : v.count ≡ length (names tag span xs)
           unfolding single_names
-          other-count = rw (names-other n, q) (sym (whole_length (view_of tag span xs) span xs parts b))
+          other_count = rw (names_other n, q) (sym (whole_length (view_of tag span xs) span xs parts b))
 
           pub other_place : {r : Place} (p : ℕ) → r ≡ view_place v xs p → r ≡ place_of (names tag span xs) p
           unfolding single_names
-          other_place p e = rw (names-other n) (rw q at e ∙ view_place_lem (view_of tag span xs) span xs parts b p)
+          other_place p e = rw (names_other n) (rw q at e ∙ view_place_lem (view_of tag span xs) span xs parts b p)
 
           pub other_select : {r : ℕ} → span < 4294967296 → (k : ℕ) → k < length (names tag span xs) → r ≡ view_select v xs k → r ≡ get_or (names tag span xs) k 0
           unfolding single_names
           other_select small k h e =
-              let c : (view_of tag span xs).count ≡ length (names tag span xs) = rw q at other-count in
-              rw (names-other n) (rw q at e ∙ view_select_lem (view_of tag span xs) span xs parts b small k (omega arith))
+              let c : (view_of tag span xs).count ≡ length (names tag span xs) = rw q at other_count in
+              rw (names_other n) (rw q at e ∙ view_select_lem (view_of tag span xs) span xs parts b small k (omega arith))
 
           pub other_walk : span < 4294967296 → (k room : ℕ) → view_walk v xs k room ≡ walk_of (names tag span xs) k room
           unfolding single_names
-          other_walk small k room = rw (q, names-other n) (view_walk_lem (view_of tag span xs) span xs parts b small k room)
+          other_walk small k room = rw (q, names_other n) (view_walk_lem (view_of tag span xs) span xs parts b small k room)
 
     -- ---- any tag: ordinals fit
-    pub names-few : Bytes xs → length (names tag span xs) ≤ 65535
+    pub names_few : Bytes xs → length (names tag span xs) ≤ 65535
     unfolding single_names
-    names-few b =
+    names_few b =
         ⊎_elim
         (λ e. rw (names_nine e, segmented_length span xs (nine e) b) (directory_of span xs (nine e)).rows.most)
-        (λ n. rw (names-other n, whole_length (view_of tag span xs) span xs (parts n) b) (parts_count (view_of tag span xs) span xs (parts n)).most)
+        (λ n. rw (names_other n, whole_length (view_of tag span xs) span xs (parts n) b) (parts_count (view_of tag span xs) span xs (parts n)).most)
         (same_or_not tag 9)

@@ -13,7 +13,7 @@ use borrow.Author.Tests.{eq-eqb, ne_eqb, le-leb, eqb-true, eqb-false, leb-true, 
 use Rattle.fields.specs.Le.{le, width_of}
 use Rattle.model.specs.Tests.{both, pick}
 use Rattle.model.proofs.Tests.{either, same_test, refuse, both_true, both_left, both_right, pick_true, pick_false}
-use Rattle.model.proofs.Counted.{counted-count}
+use Rattle.model.proofs.Counted.{counted_count}
 use Rattle.runs.specs.Runs.{run_count, runs_accepts}
 use Rattle.bitmap.specs.Body.{bitmap_accepts, bitmap_names}
 use Rattle.forms.specs.Forms.{by_tag, list_tag, runs_tag, local_accepts, local_names}
@@ -21,9 +21,9 @@ use Rattle.forms.proofs.Laws.{local_counted}
 use Rattle.forms.proofs.Tags.{Other, other_ne, by_list, by_runs}
 use Rattle.single.specs.Single.{view, fit, view_of, bitmap_view, trimmed_missing_view, fields_ok, part_in, named_in, ends_ok, view_accepts, single_accepts}
 use Rattle.single.specs.declared.View.{View}
-use Rattle.single.proofs.Laws.{tag-cases, other-view}
+use Rattle.single.proofs.Laws.{tag_cases, other_view}
 use Rattle.single.proofs.Named.{Parts, single_parts}
-use Rattle.single.proofs.Widths.{list-view, list-fields, runs-view, runs-fields}
+use Rattle.single.proofs.Widths.{list_view, list_fields, runs_view, runs_fields}
 use Rattle.bodies.specs.Accepted.{dense_body, list_body, runs_body, trimmed_to, trimmed_bitmap_body, bitmap_body, missing_body, trimmed_missing_body, accepts}
 
 -- ---- put together: a body of which the view is known
@@ -40,13 +40,13 @@ fields_there tag span xs ok = both_left _ _ ok
 
 -- ---- a count that a u16 holds
 
-fit-few : (n : ℕ) → n ≤ 65535 → fit n ≡ n
+fit_few : (n : ℕ) → n ≤ 65535 → fit n ≡ n
 unfolding fit
-fit-few n h = pick_true n 0 (le-leb n 65535 h)
+fit_few n h = pick_true n 0 (le-leb n 65535 h)
 
-fit-some : (n : ℕ) → 1 ≤ fit n → fit n ≡ n
+fit_some : (n : ℕ) → 1 ≤ fit n → fit n ≡ n
 unfolding fit
-fit-some n h =
+fit_some n h =
     ⊎_elim
     (λ (e : leb n 65535 ≡ true). pick_true n 0 e)
     (λ (e : leb n 65535 ≡ false). let z : 1 ≤ 0 = rw (pick_false n 0 e) at h in absurd (omega arith))
@@ -76,20 +76,20 @@ module _ (span : ℕ) (xs : List ℕ) where
       same_test page (single_accepts tag span xs)
       (λ ok.
       let local : local_accepts tag xs span n ≡ true = sym same ∙ ok in
-      let few = fit-few n (counted-count _ _ (local_counted tag xs span n local)).most in
+      let few = fit_few n (counted_count _ _ (local_counted tag xs span n local)).most in
       view_passes tag span xs _ e fields (omega arith) (omega arith) (rw few local) refl)
       (λ ok.
       let p : Parts (view tag false 0 span (fit n) 0) span xs = rw e at (single_parts tag span xs ok) in
-      let n-is = fit-some n (counted-count _ _ (local_counted tag xs span (fit n) p.local)).some in
+      let n-is = fit_some n (counted_count _ _ (local_counted tag xs span (fit n) p.local)).some in
       same ∙ rw n-is at p.local)
 
-  dense-same : Same 1
+  dense_same : Same 1
   unfolding accepts dense_body local_accepts by_tag view_of fields_ok pick
-  dense-same = bare 1 span _ refl refl refl
+  dense_same = bare 1 span _ refl refl refl
 
   list_same : (wide : Bool) → Same (list_tag wide)
   unfolding local_accepts list_body
-  list_same wide = page_list wide span xs ∙ bare (list_tag wide) (length xs / width_of wide) _ (list-view wide span xs) (list-fields wide xs) (sym (by_list wide _))
+  list_same wide = page_list wide span xs ∙ bare (list_tag wide) (length xs / width_of wide) _ (list_view wide span xs) (list_fields wide xs) (sym (by_list wide _))
 
   -- behind a header of four bytes that states the count
   headed : (tag : ℕ) (page : Bool) → view_of tag span xs ≡ view tag false 0 span (le 2 xs 0) 4
@@ -116,19 +116,19 @@ module _ (span : ℕ) (xs : List ℕ) where
   unfolding runs_body local_accepts
   runs_same wide =
       page_runs wide span xs
-      ∙ headed (runs_tag wide) _ (runs-view wide span xs)
+      ∙ headed (runs_tag wide) _ (runs_view wide span xs)
       (λ ok.
       let size : length xs ≡ 4 + le 2 xs 2 * (width_of wide + 4) = eqb-true _ _ (both_left _ _ ok) in
       let rest : length xs - 4 ≡ le 2 xs 2 * (width_of wide + 4) = omega arith in
       let runs : (length xs - 4) / (width_of wide + 4) ≡ le 2 xs 2 = rw rest (mul-div_cancel (le 2 xs 2) (omega arith)) in
-      (omega arith, runs-fields wide xs ∙ eq-eqb _ _ (sym runs), by_runs wide _ ∙ both_right _ _ ok))
+      (omega arith, runs_fields wide xs ∙ eq-eqb _ _ (sym runs), by_runs wide _ ∙ both_right _ _ ok))
       (λ h fields ok.
       let local : runs_accepts (width_of wide) (drop 4 xs) span (le 2 xs 0) ≡ true = sym (by_runs wide _) ∙ ok in
-      both_true _ _ (eq-eqb _ _ (whole_entries (width_of wide) (le 2 xs 2) _ local h (eqb-true _ _ (sym (runs-fields wide xs) ∙ fields)))) local)
+      both_true _ _ (eq-eqb _ _ (whole_entries (width_of wide) (le 2 xs 2) _ local h (eqb-true _ _ (sym (runs_fields wide xs) ∙ fields)))) local)
 
-  missing-same : Same 7
+  missing_same : Same 7
   unfolding accepts missing_body local_accepts by_tag view_of fields_ok pick
-  missing-same =
+  missing_same =
       headed 7 _ refl
       (λ ok. (leb-true _ _ (both_left _ _ ok), both_left _ _ (both_right _ _ ok), both_right _ _ (both_right _ _ ok)))
       (λ h fields ok. both_true _ _ (le-leb _ _ h) (both_true _ _ fields ok))
@@ -170,9 +170,9 @@ module _ (span : ℕ) (xs : List ℕ) where
       let clear : get_or xs 2 0 ≡ 0 = let n : get_or xs 2 0 ≡ 1 → ⊥ = eqb-false (get_or xs 2 0) 1 f in omega (arith, leb-true (get_or xs 2 0) 1 (both_left _ _ fields)) in
       rw f (both_true _ _ (le-leb _ _ h) (both_true _ _ (both_right _ _ fields) (both_true _ _ (eq-eqb _ _ clear) ok))))
 
-  bitmap-trimmed : eqb (get_or xs 2 0) 1 ≡ true → 12 ≤ length xs → Same 6
+  bitmap_trimmed : eqb (get_or xs 2 0) 1 ≡ true → 12 ≤ length xs → Same 6
   unfolding accepts bitmap_body trimmed_bitmap_body local_accepts local_names by_tag view_of bitmap_view fields_ok both pick
-  bitmap-trimmed f h =
+  bitmap_trimmed f h =
       let one : get_or xs 2 0 ≡ 1 = eqb-true _ _ f in
       trims 6 6 (le 4 xs 4) (le 4 xs 8) (le 2 xs 0) 12 _ (rw (f, le-leb 12 (length xs) h))
       (λ ok. both_true _ _ (le-leb (get_or xs 2 0) 1 (omega arith)) (both_left (eqb (get_or xs 3 0) 0) _ (both_right (leb 4 (length xs)) _ ok)))
@@ -180,9 +180,9 @@ module _ (span : ℕ) (xs : List ℕ) where
       (λ ok. let z : eqb (get_or xs 3 0) 0 ≡ true = both_left (eqb (get_or xs 3 0) 0) _ (both_right (leb 4 (length xs)) _ ok) in rw (f, le-leb 4 (length xs) (omega arith), z))
 
   -- a trimmed header that is not all there
-  bitmap-short : eqb (get_or xs 2 0) 1 ≡ true → leb 12 (length xs) ≡ false → Same 6
+  bitmap_short : eqb (get_or xs 2 0) 1 ≡ true → leb 12 (length xs) ≡ false → Same 6
   unfolding accepts bitmap_body trimmed_bitmap_body view_of bitmap_view pick
-  bitmap-short f s =
+  bitmap_short f s =
       same_test _ _
       (λ ok.
       let page : both (leb 4 (length xs)) (both (eqb (get_or xs 3 0) 0) (both false (trimmed_to span (le 4 xs 4) (le 4 xs 8) (bitmap_accepts (drop 12 xs) (le 4 xs 8) (le 2 xs 0)) (bitmap_names (drop 12 xs) (le 4 xs 8))))) ≡ true = rw (f, s) at ok in
@@ -192,24 +192,24 @@ module _ (span : ℕ) (xs : List ℕ) where
       let p : Parts (view 6 false 0 0 (le 2 xs 0) 12) span xs = rw e at (single_parts 6 span xs ok) in
       absurd (omega (arith, leb-false 12 (length xs) s, p.room)))
 
-  bitmap-same : Same 6
-  bitmap-same =
+  bitmap_same : Same 6
+  bitmap_same =
       ⊎_elim
-      (λ f. ⊎_elim (λ h. bitmap-trimmed f (leb-true 12 (length xs) h)) (λ s. bitmap-short f s) (either (leb 12 (length xs))))
+      (λ f. ⊎_elim (λ h. bitmap_trimmed f (leb-true 12 (length xs) h)) (λ s. bitmap_short f s) (either (leb 12 (length xs))))
       bitmap_plain
       (either (eqb (get_or xs 2 0) 1))
 
-  other-same : (tag : ℕ) → (tag ≡ 9 → ⊥) → Other 8 tag → Same tag
+  other_same : (tag : ℕ) → (tag ≡ 9 → ⊥) → Other 8 tag → Same tag
   unfolding accepts local_accepts by_tag pick
-  other-same tag n o =
+  other_same tag n o =
       let ne : (k : ℕ) → 1 ≤ k → k ≤ 8 → eqb tag k ≡ false = other_ne o in
       rw (ne 1 (omega arith) (omega arith), ne 2 (omega arith) (omega arith), ne 3 (omega arith) (omega arith), ne 4 (omega arith) (omega arith), ne 5 (omega arith) (omega arith), ne 6 (omega arith) (omega arith), ne 7 (omega arith) (omega arith), ne 8 (omega arith) (omega arith), ne_eqb tag 9 n)
-      (refuse _ (λ ok. let p : Parts (view 0 false 0 span 0 0) span xs = rw (other-view tag span xs o) at (single_parts tag span xs ok) in false≢true p.local))
+      (refuse _ (λ ok. let p : Parts (view 0 false 0 span 0 0) span xs = rw (other_view tag span xs o) at (single_parts tag span xs ok) in false≢true p.local))
 
   -- every tag but 9
   pub tested : (tag : ℕ) → (tag ≡ 9 → ⊥) → accepts tag span xs ≡ single_accepts tag span xs
   unfolding list_tag runs_tag
   tested =
-      tag-cases (λ (t : ℕ). (t ≡ 9 → ⊥) → Same t)
-      (λ n. dense-same) (λ n. list_same true) (λ n. list_same false) (λ n. runs_same false) (λ n. runs_same true) (λ n. bitmap-same) (λ n. missing-same) (λ n. trimmed_missing_same)
-      (λ t o n. other-same t n o)
+      tag_cases (λ (t : ℕ). (t ≡ 9 → ⊥) → Same t)
+      (λ n. dense_same) (λ n. list_same true) (λ n. list_same false) (λ n. runs_same false) (λ n. runs_same true) (λ n. bitmap_same) (λ n. missing_same) (λ n. trimmed_missing_same)
+      (λ t o n. other_same t n o)

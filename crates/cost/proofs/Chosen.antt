@@ -20,9 +20,9 @@ pub data Local (s : Stats) : Form → Type 0 where
   missing : Local s (items_form 7 false (2 * holes_of s) (holes_of s))
   bitmap : Local s (bitmap_form false 0 (span_of s))
 
-pub local-chosen : (s : Stats) → Local s (local_form s)
+pub local_chosen : (s : Stats) → Local s (local_form s)
 unfolding local_form local_offers
-local-chosen s = least-one (Local s) _ _ list (also (λ e. dense (eqb-true _ _ e)) (also (λ e. runs) (also (λ e. missing) (also (λ e. bitmap) end))))
+local_chosen s = least-one (Local s) _ _ list (also (λ e. dense (eqb-true _ _ e)) (also (λ e. runs) (also (λ e. missing) (also (λ e. bitmap) end))))
 
 pub data Whole (s : Stats) (span : ℕ) : Form → Type 0 where
   dense : s.count ≡ span → Whole s span dense_form
@@ -31,26 +31,26 @@ pub data Whole (s : Stats) (span : ℕ) : Form → Type 0 where
   runs16 : s.last ≤ 65535 → Whole s span (items_form 4 false (4 + 6 * s.runs) s.runs)
   runs32 : 65535 < s.last → Whole s span (items_form 5 false (4 + 8 * s.runs) s.runs)
   bitmap : Whole s span (bitmap_form false 4 span)
-  trimmed-bitmap : Whole s span (bitmap_form true 12 (span_of s))
+  trimmed_bitmap : Whole s span (bitmap_form true 12 (span_of s))
   missing : span ≤ 65535 → Whole s span (items_form 7 false (4 + 2 * (span - s.count)) (span - s.count))
-  trimmed-missing : span_of s ≤ 65535 → Whole s span (items_form 8 true (8 + 2 * holes_of s) (holes_of s))
+  trimmed_missing : span_of s ≤ 65535 → Whole s span (items_form 8 true (8 + 2 * holes_of s) (holes_of s))
 
-whole-runs : (s : Stats) (span : ℕ) → Whole s span (runs_form (leb s.last 65535) s.runs)
+whole_runs : (s : Stats) (span : ℕ) → Whole s span (runs_form (leb s.last 65535) s.runs)
 unfolding runs_form
-whole-runs s span =
+whole_runs s span =
     ⊎_elim
     (λ e. rw (pick_true {A = Form} _ _ e) (runs16 (leb-true s.last 65535 e)))
     (λ e. rw (pick_false {A = Form} _ _ e) (runs32 (leb-false s.last 65535 e)))
     (either (leb s.last 65535))
 
-pub whole-chosen : (s : Stats) (span : ℕ) → Whole s span (whole_form s span)
+pub whole_chosen : (s : Stats) (span : ℕ) → Whole s span (whole_form s span)
 unfolding whole_form plain_offers trimmed_offers
-whole-chosen s span =
+whole_chosen s span =
     least-one (Whole s span) _ _ list32
     (also (λ e. dense (eqb-true _ _ e))
     (also (λ e. list16 (leb-true _ _ e))
-    (also (λ e. whole-runs s span)
+    (also (λ e. whole_runs s span)
     (also (λ e. bitmap)
     (also (λ e. missing (leb-true _ _ e))
-    (also (λ e. trimmed-bitmap)
-    (also (λ e. trimmed-missing (leb-true _ _ e)) end)))))))
+    (also (λ e. trimmed_bitmap)
+    (also (λ e. trimmed_missing (leb-true _ _ e)) end)))))))

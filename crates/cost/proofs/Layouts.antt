@@ -9,11 +9,11 @@ use native.Mathlib.Omega.{arith}
 use lib.ListN.{length, get_or}
 use Rattle.model.specs.Lists.{Rising, complement, runs_of, positions_of}
 use Rattle.model.proofs.Complement.{complement-length}
-use Rattle.model.proofs.Rising.{rising-ends}
+use Rattle.model.proofs.Rising.{rising_ends}
 use Rattle.lists.specs.Lists.{list_layout}
 use Rattle.lists.proofs.Bytes.{length_layout}
 use Rattle.runs.specs.Runs.{runs_layout}
-use Rattle.runs.proofs.Laid.{length-bytes}
+use Rattle.runs.proofs.Laid.{length_bytes}
 use Rattle.missing.specs.Missing.{missing_layout}
 use Rattle.bitmap.specs.Body.{bitmap_layout, bitmap_length}
 use Rattle.bitmap.proofs.Laying.{laid_length}
@@ -21,27 +21,27 @@ use Rattle.stats.specs.Statistics.{stats_of, span_of}
 use Rattle.cost.specs.declared.Form.{Form}
 use Rattle.cost.specs.Forms.{items_form, bitmap_form, dense_form, local_form, whole_form}
 use Rattle.model.proofs.Positions.{length_positions, positions_rising, runs_positions}
-use Rattle.cost.proofs.Chosen.{Local, dense, list, runs, missing, bitmap, local-chosen, Whole, list32, list16, runs16, runs32, trimmed-bitmap, trimmed-missing, whole-chosen}
+use Rattle.cost.proofs.Chosen.{Local, dense, list, runs, missing, bitmap, local_chosen, Whole, list32, list16, runs16, runs32, trimmed_bitmap, trimmed_missing, whole_chosen}
 
 -- ---- over the width, of any rows
 
-pub list-bytes : (w : ℕ) (xs : List ℕ) → length (list_layout w xs) ≡ w * (stats_of xs).count
+pub list_bytes : (w : ℕ) (xs : List ℕ) → length (list_layout w xs) ≡ w * (stats_of xs).count
 unfolding stats_of
-list-bytes w xs = length_layout w xs ∙ mul_comm (length xs) w
+list_bytes w xs = length_layout w xs ∙ mul_comm (length xs) w
 
-pub runs-bytes : (w : ℕ) (xs : List ℕ) → length (runs_layout w xs) ≡ (w + 4) * (stats_of xs).runs
+pub runs_bytes_lem : (w : ℕ) (xs : List ℕ) → length (runs_layout w xs) ≡ (w + 4) * (stats_of xs).runs
 unfolding stats_of runs_layout
-runs-bytes w xs = length-bytes w 0 (runs_of xs) ∙ mul_comm (length (runs_of xs)) (w + 4)
+runs_bytes_lem w xs = length_bytes w 0 (runs_of xs) ∙ mul_comm (length (runs_of xs)) (w + 4)
 
 -- ---- of rows that rise in the span
 
 module _ (span : ℕ) (xs : List ℕ) (rising : Rising 0 span xs) where
-  pub missing-bytes : length (missing_layout span xs) ≡ 2 * (span - (stats_of xs).count)
+  pub missing_bytes : length (missing_layout span xs) ≡ 2 * (span - (stats_of xs).count)
   unfolding stats_of missing_layout
-  missing-bytes = length_layout 2 (complement 0 span xs) ∙ omega (arith, complement-length (omega arith) rising)
+  missing_bytes = length_layout 2 (complement 0 span xs) ∙ omega (arith, complement-length (omega arith) rising)
 
-  pub bitmap-bytes : length (bitmap_layout span xs) ≡ bitmap_length span
-  bitmap-bytes = laid_length span xs rising
+  pub bitmap_bytes : length (bitmap_layout span xs) ≡ bitmap_length span
+  bitmap_bytes = laid_length span xs rising
 
 -- ---- a segment, its rows counted from its first
 
@@ -57,17 +57,17 @@ module _ (xs : List ℕ) {a b : ℕ} (rising : Rising a b xs) where
 
   tight : Rising first (first + span_of (stats_of xs)) xs
   unfolding stats_of
-  tight = rising-ends rising refl
+  tight = rising_ends rising refl
 
-  pub own-rising : Rising 0 (span_of (stats_of xs)) own
-  own-rising =
+  pub own_rising : Rising 0 (span_of (stats_of xs)) own
+  own_rising =
       let z : first - first ≡ 0 = omega arith in
       let e : first + span_of (stats_of xs) - first ≡ span_of (stats_of xs) = omega arith in
       rw (z, e) at (positions_rising first (omega arith) tight)
 
-  pub own-count : (stats_of own).count ≡ (stats_of xs).count
+  pub own_count : (stats_of own).count ≡ (stats_of xs).count
   unfolding stats_of
-  own-count = length_positions first xs
+  own_count = length_positions first xs
 
   pub own_runs : (stats_of own).runs ≡ (stats_of xs).runs
   unfolding stats_of
@@ -84,13 +84,13 @@ module _ (xs : List ℕ) {a b : ℕ} (rising : Rising a b xs) where
     each_local : (f : Form) → Local (stats_of xs) f → f.bytes ≡ length (layout f.tag (span_of (stats_of xs)) own)
     unfolding dense_form items_form bitmap_form
     each_local _ (dense e) = rw l1
-    each_local _ list = rw l3 (sym (list-bytes 2 own ∙ rw own-count))
-    each_local _ runs = rw l4 (sym (runs-bytes 2 own ∙ rw own_runs))
-    each_local _ missing = rw l7 (sym (missing-bytes (span_of (stats_of xs)) own own-rising ∙ rw own-count))
-    each_local _ bitmap = rw (l6, zero-add) (sym (bitmap-bytes (span_of (stats_of xs)) own own-rising))
+    each_local _ list = rw l3 (sym (list_bytes 2 own ∙ rw own_count))
+    each_local _ runs = rw l4 (sym (runs_bytes_lem 2 own ∙ rw own_runs))
+    each_local _ missing = rw l7 (sym (missing_bytes (span_of (stats_of xs)) own own_rising ∙ rw own_count))
+    each_local _ bitmap = rw (l6, zero-add) (sym (bitmap_bytes (span_of (stats_of xs)) own own_rising))
 
-    pub local-bytes : (local_form (stats_of xs)).bytes ≡ length (layout (local_form (stats_of xs)).tag (span_of (stats_of xs)) own)
-    local-bytes = each_local (local_form (stats_of xs)) (local-chosen (stats_of xs))
+    pub local_bytes : (local_form (stats_of xs)).bytes ≡ length (layout (local_form (stats_of xs)).tag (span_of (stats_of xs)) own)
+    local_bytes = each_local (local_form (stats_of xs)) (local_chosen (stats_of xs))
 
 -- ---- a whole row set: a header before the same layouts
 
@@ -110,17 +110,17 @@ module _ (layout : ℕ → Bool → ℕ → List ℕ → List ℕ) (span : ℕ) 
   abbrev extent : ℕ
   extent = span_of (stats_of xs)
 
-  each-whole : (f : Form) → Whole (stats_of xs) span f → f.bytes ≡ length (layout f.tag f.trimmed span xs)
+  each_whole : (f : Form) → Whole (stats_of xs) span f → f.bytes ≡ length (layout f.tag f.trimmed span xs)
   unfolding dense_form items_form bitmap_form
-  each-whole _ (dense e) = sym h.h1
-  each-whole _ list32 = sym (h.h2 ∙ list-bytes 4 xs)
-  each-whole _ (list16 e) = sym (h.h3 ∙ list-bytes 2 xs)
-  each-whole _ (runs16 e) = sym (h.h4 ∙ rw (runs-bytes 2 xs))
-  each-whole _ (runs32 e) = sym (h.h5 ∙ rw (runs-bytes 4 xs))
-  each-whole _ bitmap = sym (h.h6 ∙ rw (bitmap-bytes span xs rising))
-  each-whole _ trimmed-bitmap = sym (h.t6 ∙ rw (bitmap-bytes extent (own_of xs) (own-rising xs rising)))
-  each-whole _ (missing e) = sym (h.h7 ∙ rw (missing-bytes span xs rising))
-  each-whole _ (trimmed-missing e) = sym (h.t8 ∙ rw (missing-bytes extent (own_of xs) (own-rising xs rising), own-count xs rising))
+  each_whole _ (dense e) = sym h.h1
+  each_whole _ list32 = sym (h.h2 ∙ list_bytes 4 xs)
+  each_whole _ (list16 e) = sym (h.h3 ∙ list_bytes 2 xs)
+  each_whole _ (runs16 e) = sym (h.h4 ∙ rw (runs_bytes_lem 2 xs))
+  each_whole _ (runs32 e) = sym (h.h5 ∙ rw (runs_bytes_lem 4 xs))
+  each_whole _ bitmap = sym (h.h6 ∙ rw (bitmap_bytes span xs rising))
+  each_whole _ trimmed_bitmap = sym (h.t6 ∙ rw (bitmap_bytes extent (own_of xs) (own_rising xs rising)))
+  each_whole _ (missing e) = sym (h.h7 ∙ rw (missing_bytes span xs rising))
+  each_whole _ (trimmed_missing e) = sym (h.t8 ∙ rw (missing_bytes extent (own_of xs) (own_rising xs rising), own_count xs rising))
 
-  pub whole-bytes : (whole_form (stats_of xs) span).bytes ≡ length (layout (whole_form (stats_of xs) span).tag (whole_form (stats_of xs) span).trimmed span xs)
-  whole-bytes = each-whole (whole_form (stats_of xs) span) (whole-chosen (stats_of xs) span)
+  pub whole_bytes : (whole_form (stats_of xs) span).bytes ≡ length (layout (whole_form (stats_of xs) span).tag (whole_form (stats_of xs) span).trimmed span xs)
+  whole_bytes = each_whole (whole_form (stats_of xs) span) (whole_chosen (stats_of xs) span)

@@ -21,16 +21,16 @@ use Rattle.cost.proofs.Choices.{lex-same}
 
 -- ---- keys of one length are in order
 
-more-first : (x y : ℕ) (xs ys : List ℕ) → y < x → lex (x ∷ xs) (y ∷ ys) ≡ false
+more_first : (x y : ℕ) (xs ys : List ℕ) → y < x → lex (x ∷ xs) (y ∷ ys) ≡ false
 unfolding lex pick
-more-first x y xs ys h = rw (le-ltb x y (omega arith), lt-ltb y x h)
+more_first x y xs ys h = rw (le-ltb x y (omega arith), lt-ltb y x h)
 
 less_first : (x y : ℕ) (xs ys : List ℕ) → x < y → lex (x ∷ xs) (y ∷ ys) ≡ true
 unfolding lex pick
 less_first x y xs ys h = rw (lt-ltb x y h)
 
 pub less_head : (x y : ℕ) (xs ys : List ℕ) → lex (x ∷ xs) (y ∷ ys) ≡ true → x ≤ y
-less_head x y xs ys e = ⊎_elim (λ m. never e (more-first x y xs ys m)) (λ l. l) (order y x)
+less_head x y xs ys e = ⊎_elim (λ m. never e (more_first x y xs ys m)) (λ l. l) (order y x)
 
 pub not_less_head : (x y : ℕ) (xs ys : List ℕ) → lex (x ∷ xs) (y ∷ ys) ≡ false → y ≤ x
 not_less_head x y xs ys e = ⊎_elim (λ m. never (less_first x y xs ys m) e) (λ l. l) (order x y)
@@ -47,7 +47,7 @@ less_not_back (x ∷ xs) [] e = absurd (false≢true e)
 less_not_back (x ∷ xs) (y ∷ ys) e =
     ⊎_elim
     (λ (q : x ≡ y). lex-same y x ys xs (sym q) ∙ less_not_back xs ys (sym (lex-same x y xs ys q) ∙ e))
-    (λ l. more-first y x ys xs l)
+    (λ l. more_first y x ys xs l)
     (eq-or-lt_of_le (less_head x y xs ys e))
 
 not_less_on : (xs ys zs : List ℕ) → length xs ≡ length ys → length ys ≡ length zs → lex ys xs ≡ false → lex zs ys ≡ false → lex zs xs ≡ false
@@ -64,7 +64,7 @@ not_less_on (x ∷ xs) (y ∷ ys) (z ∷ zs) p q e f =
     let a : y ≡ x = omega arith in
     let b : z ≡ y = omega arith in
     lex-same z x zs xs (sym s) ∙ not_less_on xs ys zs (omega arith) (omega arith) (sym (lex-same y x ys xs a) ∙ e) (sym (lex-same z y zs ys b) ∙ f))
-    (λ n. more-first z x zs xs n)
+    (λ n. more_first z x zs xs n)
     (eq-or-lt_of_le (le_trans l m))
 
 -- ---- the least
@@ -77,17 +77,17 @@ no_less_on : (f g h : Form) → NoLess f g → NoLess g h → NoLess f h
 unfolding key_of
 no_less_on f g h a b = not_less_on (key_of f) (key_of g) (key_of h) refl refl a b
 
-lesser-left : (f g : Form) → NoLess (lesser f g) f
+lesser_left : (f g : Form) → NoLess (lesser f g) f
 unfolding lesser
-lesser-left f g =
+lesser_left f g =
     ⊎_elim
     (λ e. rw (pick_true _ _ e) (less_not_back (key_of g) (key_of f) e))
     (λ e. rw (pick_false _ _ e) (not_less_self (key_of f)))
     (either (lex (key_of g) (key_of f)))
 
-lesser-right : (f g : Form) → NoLess (lesser f g) g
+lesser_right : (f g : Form) → NoLess (lesser f g) g
 unfolding lesser
-lesser-right f g =
+lesser_right f g =
     ⊎_elim (λ e. rw (pick_true _ _ e) (not_less_self (key_of g))) (λ e. rw (pick_false _ _ e) e) (either (lex (key_of g) (key_of f)))
 
 step : Form → Offer → Form
@@ -96,7 +96,7 @@ step f o = pick o.allowed (lesser f o.form) f
 step_left : (f : Form) (o : Offer) → NoLess (step f o) f
 unfolding step
 step_left f o =
-    ⊎_elim (λ e. rw (pick_true _ _ e) (lesser-left f o.form)) (λ e. rw (pick_false _ _ e) (not_less_self (key_of f))) (either o.allowed)
+    ⊎_elim (λ e. rw (pick_true _ _ e) (lesser_left f o.form)) (λ e. rw (pick_false _ _ e) (not_less_self (key_of f))) (either o.allowed)
 
 -- no less than the first, and than each that may be taken
 pub first_no_less : (f : Form) (os : List Offer) → NoLess (least f os) f
@@ -108,13 +108,13 @@ pub each_no_less : (f : Form) (os : List Offer) (k : ℕ) (d : Offer) → k < le
 unfolding least step
 each_no_less f [] k d h t = absurd (omega arith)
 each_no_less f (o ∷ os) zero d h t =
-    no_less_on (least (step f o) os) (step f o) o.form (first_no_less (step f o) os) (rw (pick_true _ _ t) (lesser-right f o.form))
+    no_less_on (least (step f o) os) (step f o) o.form (first_no_less (step f o) os) (rw (pick_true _ _ t) (lesser_right f o.form))
 each_no_less f (o ∷ os) (suc k) d h t = each_no_less (step f o) os k d (omega arith) t
 
 -- and it is one of them: what holds of the first and of each that may be taken holds of it
-step-one : (P : Form → Type 0) (f : Form) (o : Offer) → P f → (o.allowed ≡ true → P o.form) → P (step f o)
+step_one : (P : Form → Type 0) (f : Form) (o : Offer) → P f → (o.allowed ≡ true → P o.form) → P (step f o)
 unfolding step lesser
-step-one P f o p q =
+step_one P f o p q =
     ⊎_elim
     (λ t.
     ⊎_elim
@@ -131,7 +131,7 @@ pub data Each (P : Form → Type 0) : List Offer → Type 0 where
 pub least-one : (P : Form → Type 0) (f : Form) (os : List Offer) → P f → Each P os → P (least f os)
 unfolding least step
 least-one P f [] p q = p
-least-one P f (o ∷ os) p (also q r) = least-one P (step f o) os (step-one P f o p q) r
+least-one P f (o ∷ os) p (also q r) = least-one P (step f o) os (step_one P f o p q) r
 
 -- so it is no longer
 pub no_longer : (f g : Form) → NoLess f g → f.bytes ≤ g.bytes
@@ -141,19 +141,19 @@ no_longer f g e = not_less_head g.bytes f.bytes _ _ e
 pub least_first : (f : Form) (os : List Offer) → (least f os).bytes ≤ f.bytes
 least_first f os = no_longer (least f os) f (first_no_less f os)
 
-pub least-each : (f : Form) (os : List Offer) (k : ℕ) (d : Offer) → k < length os → (get_or os k d).allowed ≡ true → (least f os).bytes ≤ (get_or os k d).form.bytes
-least-each f os k d h t = no_longer (least f os) (get_or os k d).form (each_no_less f os k d h t)
+pub least_each : (f : Form) (os : List Offer) (k : ℕ) (d : Offer) → k < length os → (get_or os k d).allowed ≡ true → (least f os).bytes ≤ (get_or os k d).form.bytes
+least_each f os k d h t = no_longer (least f os) (get_or os k d).form (each_no_less f os k d h t)
 
 -- ---- a local payload: at most a bitmap, and so at most 8,704 bytes over 65,535 positions
 
-pub local-bitmap : (s : Stats) → (local_form s).bytes ≤ bitmap_length (span_of s)
+pub local_bitmap : (s : Stats) → (local_form s).bytes ≤ bitmap_length (span_of s)
 unfolding local_form local_offers bitmap_form
-local-bitmap s =
-    let h : (local_form s).bytes ≤ 0 + bitmap_length (span_of s) = least-each (items_form 3 false (2 * s.count) s.count) (local_offers s) 3 (always dense_form) (lit< tt) refl in
+local_bitmap s =
+    let h : (local_form s).bytes ≤ 0 + bitmap_length (span_of s) = least_each (items_form 3 false (2 * s.count) s.count) (local_offers s) 3 (always dense_form) (lit< tt) refl in
     omega arith
 
-pub local-short : (s : Stats) → span_of s ≤ 65535 → (local_form s).bytes ≤ 8704
-local-short s h = le_trans (local-bitmap s) (omega arith)
+pub local_short : (s : Stats) → span_of s ≤ 65535 → (local_form s).bytes ≤ 8704
+local_short s h = le_trans (local_bitmap s) (omega arith)
 
 -- ---- nothing is below the dense form
 
@@ -161,16 +161,16 @@ zeros_least : (xs : List ℕ) (n : ℕ) → lex xs (replicate n 0) ≡ false
 unfolding lex
 zeros_least [] n = refl
 zeros_least (x ∷ xs) zero = refl
-zeros_least (x ∷ xs) (suc n) = ⊎_elim (λ (p : 0 < x). more-first x 0 xs (replicate n 0) p) (λ (z : x ≤ 0). lex-same x 0 xs (replicate n 0) (omega arith) ∙ zeros_least xs n) (order 0 x)
+zeros_least (x ∷ xs) (suc n) = ⊎_elim (λ (p : 0 < x). more_first x 0 xs (replicate n 0) p) (λ (z : x ≤ 0). lex-same x 0 xs (replicate n 0) (omega arith) ∙ zeros_least xs n) (order 0 x)
 
 dense_stays : (f : Form) → lesser dense_form f ≡ dense_form
 unfolding lesser key_of dense_form order_of pick
 dense_stays f = rw (zeros_least (key_of f) 5)
 
-dense-taken : (n : ℕ) → 1 ≤ n → lesser (items_form 3 false (2 * n) n) dense_form ≡ dense_form
+dense_taken : (n : ℕ) → 1 ≤ n → lesser (items_form 3 false (2 * n) n) dense_form ≡ dense_form
 unfolding lesser key_of items_form dense_form
-dense-taken n h = pick_true _ _ (less_first 0 (2 * n) _ _ (omega arith))
+dense_taken n h = pick_true _ _ (less_first 0 (2 * n) _ _ (omega arith))
 
-pub dense-local : (s : Stats) → holes_of s ≡ 0 → 1 ≤ s.count → local_form s ≡ dense_form
+pub dense_local : (s : Stats) → holes_of s ≡ 0 → 1 ≤ s.count → local_form s ≡ dense_form
 unfolding local_form local_offers least pick
-dense-local s h some = rw (eq-eqb (holes_of s) 0 h, dense-taken s.count some, dense_stays (items_form 4 false (6 * s.runs) s.runs), dense_stays (items_form 7 false (2 * holes_of s) (holes_of s)), dense_stays (bitmap_form false 0 (span_of s)))
+dense_local s h some = rw (eq-eqb (holes_of s) 0 h, dense_taken s.count some, dense_stays (items_form 4 false (6 * s.runs) s.runs), dense_stays (items_form 7 false (2 * holes_of s) (holes_of s)), dense_stays (bitmap_form false 0 (span_of s)))

@@ -17,13 +17,13 @@ use Rattle.single.specs.Layout.{first_of, extent_of, plain_layout, trimmed_layou
 use Rattle.stats.specs.Statistics.{stats_of, span_of}
 use Rattle.stats.proofs.Joining.{reach}
 use Rattle.cost.specs.Forms.{local_form, whole_form}
-use Rattle.cost.proofs.Layouts.{local-bytes, own_of, Headed, whole-bytes}
+use Rattle.cost.proofs.Layouts.{local_bytes, own_of, Headed, whole_bytes}
 
 -- a segment: the layout of its rows counted from its first
-pub stated-local : (xs : List ℕ) {a b : ℕ} → Rising a b xs
+pub stated_local : (xs : List ℕ) {a b : ℕ} → Rising a b xs
     → (local_form (stats_of xs)).bytes ≡ length (local_layout (local_form (stats_of xs)).tag (span_of (stats_of xs)) (own_of xs))
 unfolding local_layout by_tag pick
-stated-local xs r = local-bytes xs r local_layout refl refl refl refl refl
+stated_local xs r = local_bytes xs r local_layout refl refl refl refl refl
 
 -- two fields before a payload, three and four
 two : (a b u v : ℕ) (ys : List ℕ) → length (digits a u ++ digits b v ++ ys) ≡ a + b + length ys
@@ -36,9 +36,9 @@ four : (a b c d u v w x : ℕ) (ys : List ℕ) → length (digits a u ++ digits 
 four a b c d u v w x ys = simp (length-append, length_digits) (omega arith)
 
 -- the extent of the layout is the statistics' span
-pub extent-span : (xs : List ℕ) {a b : ℕ} → Rising a b xs → 1 ≤ length xs → extent_of xs ≡ span_of (stats_of xs)
+pub extent_span : (xs : List ℕ) {a b : ℕ} → Rising a b xs → 1 ≤ length xs → extent_of xs ≡ span_of (stats_of xs)
 unfolding extent_of first_of stats_of
-extent-span xs r some = omega (arith, reach r some)
+extent_span xs r some = omega (arith, reach r some)
 
 -- and its rows are counted from the first
 pub own_is : (xs : List ℕ) → positions_of (first_of xs) xs ≡ own_of xs
@@ -55,11 +55,11 @@ headed span xs r some = record {
   h5 = two 2 2 (length xs) (length (runs_of xs)) (runs_layout 4 xs);
   h6 = two 2 2 (length xs) 0 (bitmap_layout span xs);
   h7 = two 2 2 (length xs) 0 (missing_layout span xs);
-  t6 = four 2 2 4 4 (length xs) 1 (first_of xs) (extent_of xs) (bitmap_layout (extent_of xs) (positions_of (first_of xs) xs)) ∙ rw (extent-span xs r some, own_is xs);
-  t8 = three 4 2 2 (first_of xs) (extent_of xs) (length xs) (missing_layout (extent_of xs) (positions_of (first_of xs) xs)) ∙ rw (extent-span xs r some, own_is xs);
+  t6 = four 2 2 4 4 (length xs) 1 (first_of xs) (extent_of xs) (bitmap_layout (extent_of xs) (positions_of (first_of xs) xs)) ∙ rw (extent_span xs r some, own_is xs);
+  t8 = three 4 2 2 (first_of xs) (extent_of xs) (length xs) (missing_layout (extent_of xs) (positions_of (first_of xs) xs)) ∙ rw (extent_span xs r some, own_is xs);
 }
 
 -- a whole body, its header with it
-pub stated-whole : (span : ℕ) (xs : List ℕ) → Rising 0 span xs → 1 ≤ length xs
+pub stated_whole : (span : ℕ) (xs : List ℕ) → Rising 0 span xs → 1 ≤ length xs
     → (whole_form (stats_of xs) span).bytes ≡ length (single_layout (whole_form (stats_of xs) span).tag (whole_form (stats_of xs) span).trimmed span xs)
-stated-whole span xs r some = whole-bytes single_layout span xs r (headed span xs r some)
+stated_whole span xs r some = whole_bytes single_layout span xs r (headed span xs r some)

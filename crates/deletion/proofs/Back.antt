@@ -16,7 +16,7 @@ use Rattle.model.specs.Tests.{pick}
 use Rattle.model.specs.Lists.{has, walk_of}
 use Rattle.model.specs.Answers.{accepted, refused, over}
 use Rattle.model.proofs.Tests.{either, pick_true, pick_false, both_true}
-use Rattle.model.proofs.Rising.{rising-room}
+use Rattle.model.proofs.Rising.{rising_room}
 use Rattle.model.proofs.Positions.{positions_zero}
 use Rattle.model.proofs.Writing.{over-take}
 use Rattle.model.proofs.Answers.{same_number}
@@ -75,7 +75,7 @@ module _ (rows limit : ℕ) (ordinals : List ℕ) (words : ℕ) (out : List ℕ)
   unfolding section_number coded_number stated_fit deleted_of
   struck_taken =
       let d = plan_divided 0 rows ordinals [] (body_limit rows) words (length out) number in
-      let most : length ordinals ≤ rows = omega (arith, rising-room (omega arith) d.rising) in
+      let most : length ordinals ≤ rows = omega (arith, rising_room (omega arith) d.rising) in
       let short : length (struck_body rows limit ordinals words out) ≤ body_limit rows = rw struck_front plan.in_limit in
       let stated = both_true _ _ (le-leb 1 _ some) (both_true _ _ (le-leb _ _ most) (le-leb _ _ short)) in
       let taken : accepts (planned_form 0 rows ordinals []).tag rows (struck_body rows limit ordinals words out) ≡ true = rw struck_front (rw (sub-zero rows) at plan.holds.accepted) in

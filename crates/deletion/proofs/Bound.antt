@@ -20,27 +20,27 @@ use Rattle.cost.specs.Forms.{items_form, bitmap_form, dense_form, always, plain_
 use Rattle.model.specs.Lists.{positions_of}
 use Rattle.model.proofs.Answers.{same_number}
 use Rattle.stats.specs.Statistics.{stats_of}
-use Rattle.cost.proofs.Least.{least-each}
+use Rattle.cost.proofs.Least.{least_each}
 use Rattle.planning.specs.Refusals.{early_number}
 use Rattle.planning.specs.Planning.{planned_segments, planned_form, late_number, plan_number, plan_of}
-use Rattle.planning.proofs.Choosing.{chosen-short}
-use Rattle.planning.proofs.Sound.{early-most}
+use Rattle.planning.proofs.Choosing.{chosen_short}
+use Rattle.planning.proofs.Sound.{early_most}
 use Rattle.planning.proofs.Accepted.{plan_number_lem}
 use Rattle.deletion.specs.Reading.{body_limit, block_fits}
 use Rattle.deletion.specs.Striking.{no_deletions, strike_of}
 
 -- ---- a plan is at most a bitmap of all rows
 
-whole-bitmap : (s : Stats) (span : ℕ) → (whole_form s span).bytes ≤ 4 + bitmap_length span
+whole_bitmap : (s : Stats) (span : ℕ) → (whole_form s span).bytes ≤ 4 + bitmap_length span
 unfolding whole_form plain_offers trimmed_offers bitmap_form
-whole-bitmap s span = least-each (items_form 2 false (4 * s.count) s.count) (plain_offers s span ++ trimmed_offers s) 3 (always dense_form) (lit< tt) refl
+whole_bitmap s span = least_each (items_form 2 false (4 * s.count) s.count) (plain_offers s span ++ trimmed_offers s) 3 (always dense_form) (lit< tt) refl
 
-pub planned-short : (rows : ℕ) (ordinals : List ℕ) → (planned_form 0 rows ordinals []).bytes ≤ body_limit rows
+pub planned_short : (rows : ℕ) (ordinals : List ℕ) → (planned_form 0 rows ordinals []).bytes ≤ body_limit rows
 unfolding planned_form body_limit
-planned-short rows ordinals =
+planned_short rows ordinals =
     let xs = positions_of 0 ordinals in
-    let most : (whole_form (stats_of xs) (rows - 0)).bytes ≤ 4 + bitmap_length rows = rw (sub-zero rows) (whole-bitmap (stats_of xs) rows) in
-    le_trans (chosen-short (rows - 0) xs (planned_segments 0 ordinals [])) most
+    let most : (whole_form (stats_of xs) (rows - 0)).bytes ≤ 4 + bitmap_length rows = rw (sub-zero rows) (whole_bitmap (stats_of xs) rows) in
+    le_trans (chosen_short (rows - 0) xs (planned_segments 0 ordinals [])) most
 
 pub limit_short : (rows : ℕ) → rows ≤ 65535 → body_limit rows ≤ 65535
 unfolding body_limit
@@ -49,10 +49,10 @@ limit_short rows h = omega arith
 -- ---- no test gives 6
 
 module _ (rows : ℕ) (ordinals : List ℕ) (words room : ℕ) (small : rows ≤ 65535) where
-  late-other : late_number (planned_form 0 rows ordinals []).bytes (body_limit rows) room ≡ 6 → ⊥
+  late_other : late_number (planned_form 0 rows ordinals []).bytes (body_limit rows) room ≡ 6 → ⊥
   unfolding late_number
-  late-other e =
-      let short = planned-short rows ordinals in
+  late_other e =
+      let short = planned_short rows ordinals in
       let q = pick_true (pick {A = ℕ} (leb (planned_form 0 rows ordinals []).bytes room) 0 7) 6 (both_true _ _ (le-leb _ _ short) (le-leb _ _ (le_trans short (limit_short rows small)))) in
       ⊎_elim
       (λ h. let z : ◌≡◌ {A = ℕ} 0 6 = sym (q ∙ pick_true 0 7 h) ∙ e in omega arith)
@@ -63,8 +63,8 @@ module _ (rows : ℕ) (ordinals : List ℕ) (words room : ℕ) (small : rows ≤
   unfolding plan_number
   plan_other e =
       ⊎_elim
-      (λ h. late-other (sym (pick_true _ _ h) ∙ e))
-      (λ h. let z : early_number 0 rows ordinals [] words ≡ 6 = sym (pick_false _ _ h) ∙ e in omega (arith, early-most 0 rows ordinals [] words))
+      (λ h. late_other (sym (pick_true _ _ h) ∙ e))
+      (λ h. let z : early_number 0 rows ordinals [] words ≡ 6 = sym (pick_false _ _ h) ∙ e in omega (arith, early_most 0 rows ordinals [] words))
       (either (eqb (early_number 0 rows ordinals [] words) 0))
 
 pub never_six : (rows limit : ℕ) (ordinals : List ℕ) (words room : ℕ) → rows ≤ 65535 → (strike_of rows limit ordinals words room).number ≡ 6 → ⊥

@@ -7,7 +7,7 @@ use Prim.Native.Nat.{ℕ, ◌<◌, ◌≤◌}
 use lib.ListN.{length}
 use borrow.Author.Tests.{le-leb, lt-leb}
 use Rattle.model.specs.Answers.{Answer, refused}
-use Rattle.model.proofs.Tests.{pick_true, pick_false, both_true, both_first, both-second}
+use Rattle.model.proofs.Tests.{pick_true, pick_false, both_true, both_first, both_second}
 use Rattle.planning.specs.Planning.{plan_of, plan_out, plan_work}
 use Rattle.deletion.specs.Reading.{body_limit, block_fits}
 use Rattle.deletion.specs.Striking.{no_deletions, strikes, strike_of, strike_out, strike_work}
@@ -34,8 +34,8 @@ module _ (rows limit : ℕ) (ordinals work out : List ℕ) where
       let none = lt-leb 1 (length ordinals) h in
       record {
         answer = sym (pick_true _ _ e ∙ pick_false _ _ none);
-        output = sym (pick_false _ _ (both-second _ _ none));
-        workspace = sym (pick_false _ _ (both-second _ _ none));
+        output = sym (pick_false _ _ (both_second _ _ none));
+        workspace = sym (pick_false _ _ (both_second _ _ none));
       }
 
   pub some_deletions : {work' out' : List ℕ} {a : Answer} {most : ℕ} → block_fits rows limit ≡ true → 1 ≤ length ordinals → most ≡ body_limit rows

@@ -14,7 +14,7 @@ use Rattle.model.proofs.Tests.{pick_true, pick_false, both_true, both_left, both
 use Rattle.gather_core.proofs.Admitted.{passes}
 use Rattle.bodies.specs.Bodies.{accepts, names}
 use Rattle.planning.specs.Planning.{answered}
-use Rattle.planning.proofs.Accepted.{answered-none, answered-some}
+use Rattle.planning.proofs.Accepted.{answered_none, answered_some}
 use Rattle.deletion.specs.Reading.{coded_number, section_number, deleted_of, stated_of, sound}
 use Rattle.deletion.specs.declared.Section.{Section}
 use Rattle.deletion.specs.declared.Section.TheVariants as section
@@ -23,10 +23,10 @@ use Rattle.deletion.specs.declared.Section.TheVariants as section
 
 module _ {r n : ℕ} (e : r ≡ n) where
   pub refuses : (vs : List ℕ) → (r ≡ 0 → ⊥) → refused r ≡ answered n vs
-  refuses vs h = rw (← e) (sym (answered-some r vs h))
+  refuses vs h = rw (← e) (sym (answered_some r vs h))
 
   pub answers : {vs ws : List ℕ} → r ≡ 0 → vs ≡ ws → accepted vs ≡ answered n ws
-  answers h q = rw q (sym (answered-none n _ (sym e ∙ h)))
+  answers h q = rw q (sym (answered_none n _ (sym e ∙ h)))
 
   -- what is lent: kept as it was, or written
   pub keeps : (new old : List ℕ) → (r ≡ 0 → ⊥) → old ≡ pick (eqb n 0) new old
@@ -46,10 +46,10 @@ number-sound rows limit (section.Coded count tag) body e =
     both_true _ _ last.0 (passes _ 10 0 (λ z. omega arith) last.1).0
 
 -- the stated count is the number of deleted ordinals
-pub sound-count : (rows : ℕ) (s : Section) (body : List ℕ) → sound rows s body ≡ true → stated_of s ≡ length (deleted_of rows s body)
+pub sound_count : (rows : ℕ) (s : Section) (body : List ℕ) → sound rows s body ≡ true → stated_of s ≡ length (deleted_of rows s body)
 unfolding sound stated_of deleted_of
-sound-count rows section.Empty body e = refl
-sound-count rows (section.Coded count tag) body e = sym (eqb-true _ _ (both_right _ _ e))
+sound_count rows section.Empty body e = refl
+sound_count rows (section.Coded count tag) body e = sym (eqb-true _ _ (both_right _ _ e))
 
 module _ (rows : ℕ) (body : List ℕ) {s : Section} {count tag : ℕ} (q : s ≡ section.Coded count tag) (e : sound rows s body ≡ true) where
   pub coded_accepted : accepts tag rows body ≡ true
@@ -58,4 +58,4 @@ module _ (rows : ℕ) (body : List ℕ) {s : Section} {count tag : ℕ} (q : s �
 
   pub coded_count : count ≡ length (names tag rows body)
   unfolding stated_of deleted_of
-  coded_count = rw q at (sound-count rows s body e)
+  coded_count = rw q at (sound_count rows s body e)

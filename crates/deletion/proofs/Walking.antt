@@ -13,11 +13,11 @@ use Rattle.fields.specs.Le.{Bytes}
 use Rattle.model.specs.Lists.{walk_of}
 use Rattle.model.specs.Answers.{over, Walked}
 use Rattle.model.proofs.Tests.{order}
-use Rattle.model.proofs.Rising.{rising-below}
+use Rattle.model.proofs.Rising.{rising_below}
 use Rattle.model.proofs.Sets.{sets-append, sets-next, sets_front}
-use Rattle.model.proofs.Writing.{walks-none}
+use Rattle.model.proofs.Writing.{walks_none}
 use Rattle.bodies.specs.Bodies.{accepts, names}
-use Rattle.bodies.proofs.Named.{names-rising}
+use Rattle.bodies.proofs.Named.{names_rising}
 
 -- ---- a page is copied: i of its n numbers so far
 
@@ -59,7 +59,7 @@ module _ (tag rows : ℕ) (body : List ℕ) {before page : List ℕ} {r : ℕ} (
   page_narrow small j i =
       let same : get_or page j 0 ≡ get_or (names tag rows body) (k + j) 0 =
       sym (get_or-take n page j 0 i) ∙ ap (λ (xs : List ℕ). get_or xs j 0) page_front ∙ get_or-take n (drop k (names tag rows body)) j 0 i ∙ get_or-drop k (names tag rows body) j 0 in
-      rw same (omega (arith, rising-below (names-rising tag rows body ok b) (k + j) (omega arith)))
+      rw same (omega (arith, rising_below (names_rising tag rows body ok b) (k + j) (omega arith)))
 
 -- ---- i of n ordinals are written, from the k-th on
 
@@ -114,4 +114,4 @@ walked_far tag rows body {before} k c e w =
 
 -- a walk of no ordinals writes nothing
 pub walked_none : (before : List ℕ) (k : ℕ) → Walked (walk_of [] k (length before)) before before 0
-walked_none before k = walks-none before (rw (drop-nil k, take-nil (length before)))
+walked_none before k = walks_none before (rw (drop-nil k, take-nil (length before)))

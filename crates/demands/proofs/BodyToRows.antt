@@ -14,7 +14,7 @@ use Rattle.model.specs.Tests.{both, pick}
 use Rattle.model.specs.Lists.{has, shift, runs_of, positions_of}
 use Rattle.model.proofs.Tests.{either, both_left, both_right, pick_true}
 use Rattle.model.proofs.Rising.{rising_wider}
-use Rattle.model.proofs.Append.{shift-rising, shift_zero, length_shift}
+use Rattle.model.proofs.Append.{shift_rising, shift_zero, length_shift}
 use Rattle.model.proofs.Positions.{positions_shift}
 use Rattle.lists.specs.Lists.{list_names, list_accepts, list_layout}
 use Rattle.runs.specs.Runs.{run_count, runs_names, runs_accepts, runs_layout}
@@ -22,22 +22,22 @@ use Rattle.bitmap.specs.Body.{bitmap_layout}
 use Rattle.missing.specs.Missing.{missing_layout}
 use Rattle.forms.specs.Forms.{by_tag, local_accepts, local_names, local_layout}
 use Rattle.forms.specs.RowSets.{RowSet}
-use Rattle.forms.proofs.Bounds.{dense-all, missing-span, items_hold, starts_hold}
+use Rattle.forms.proofs.Bounds.{dense_all, missing_span, items_hold, starts_hold}
 use Rattle.single.specs.Single.{fit, view_of, bitmap_view, trimmed_missing_view, named_in, ends_ok, single_names}
 use Rattle.single.specs.declared.View.{View}
 use Rattle.single.specs.Layout.{first_of, extent_of, plain_layout, trimmed_layout, single_layout}
-use Rattle.single.proofs.Laid.{single_layout_lem, first-is, extent-is}
-use Rattle.single.proofs.Named.{Parts, single_parts, parts_count, named-rising, named-length, whole_length}
+use Rattle.single.proofs.Laid.{single_layout_lem, first_is, extent_is}
+use Rattle.single.proofs.Named.{Parts, single_parts, parts_count, named_rising, named-length, whole_length}
 use Rattle.segmented.proofs.LaidBack.{segment_in, body_laid, rows_cut, cut_fits}
 use Rattle.directory.specs.Directory.{stated_segments}
 use Rattle.bodies.specs.Bodies.{accepts, names}
-use Rattle.bodies.proofs.Laws.{names_nine, names-other, nine, other, names-few}
-use Rattle.bodies.proofs.Named.{names-rising, names-some}
+use Rattle.bodies.proofs.Laws.{names_nine, names_other, nine, other, names_few}
+use Rattle.bodies.proofs.Named.{names_rising, names_some}
 use Rattle.demands.specs.Layouts.{Dense, Items, Runs, Trimmed, Bitmap, Missing, TrimmedMissing, Segmented}
 
 module _ (tag span : ℕ) (xs : List ℕ) (bytes : Bytes xs) (ok : accepts tag span xs ≡ true) where
   row_set : RowSet span (names tag span xs)
-  row_set = record { rising = names-rising tag span xs ok bytes; some = names-some tag span xs ok bytes; most = names-few tag span xs ok bytes }
+  row_set = record { rising = names_rising tag span xs ok bytes; some = names_some tag span xs ok bytes; most = names_few tag span xs ok bytes }
 
   module _ (n : tag ≡ 9 → ⊥) where
     parts : Parts (view_of tag span xs) span xs
@@ -46,12 +46,12 @@ module _ (tag span : ℕ) (xs : List ℕ) (bytes : Bytes xs) (ok : accepts tag s
     laid : xs ≡ single_layout tag (view_of tag span xs).trimmed span (names tag span xs)
     laid =
         single_layout_lem tag span xs (other tag span xs ok n) bytes
-        ∙ ap (λ (rows : List ℕ). single_layout tag (view_of tag span xs).trimmed span rows) (sym (names-other tag span xs n))
+        ∙ ap (λ (rows : List ℕ). single_layout tag (view_of tag span xs).trimmed span rows) (sym (names_other tag span xs n))
 
     -- what is named, by the view
     named_by : names tag span xs ≡ shift (view_of tag span xs).base (named_in (view_of tag span xs) xs)
     unfolding single_names
-    named_by = names-other tag span xs n
+    named_by = names_other tag span xs n
 
     count_by : length (names tag span xs) ≡ (view_of tag span xs).count
     count_by = ap length named_by ∙ whole_length (view_of tag span xs) span xs parts bytes
@@ -64,7 +64,7 @@ module _ (span : ℕ) (xs : List ℕ) (bytes : Bytes xs) where
   unfolding single_layout plain_layout local_layout by_tag view_of pick
   dense_back ok =
       let n = not_nine 1 (omega arith) in
-      let whole : length (names 1 span xs) ≡ span = count_by 1 span xs bytes ok n ∙ dense-all xs span (fit span) (parts 1 span xs bytes ok n).local in
+      let whole : length (names 1 span xs) ≡ span = count_by 1 span xs bytes ok n ∙ dense_all xs span (fit span) (parts 1 span xs bytes ok n).local in
       let held = row_set 1 span xs bytes ok in
       record { held = held; whole = whole; narrow = omega (arith, held.most); bytes = laid 1 span xs bytes ok n }
 
@@ -103,16 +103,16 @@ module _ (span : ℕ) (xs : List ℕ) (bytes : Bytes xs) where
   unfolding single_layout plain_layout local_layout by_tag view_of pick
   missing_back ok =
       let n = not_nine 7 (omega arith) in
-      record { held = row_set 7 span xs bytes ok; narrow = missing-span (drop 4 xs) span (le 2 xs 0) (parts 7 span xs bytes ok n).local; bytes = laid 7 span xs bytes ok n }
+      record { held = row_set 7 span xs bytes ok; narrow = missing_span (drop 4 xs) span (le 2 xs 0) (parts 7 span xs bytes ok n).local; bytes = laid 7 span xs bytes ok n }
 
 -- ---- trimmed forms: base and local span are those of the list, as both ends are present
 
 module _ {span base extent : ℕ} {own rows : List ℕ} (t : Trimmed span base extent own rows) where
   first : first_of rows ≡ base
-  first = rw t.rows_are (first-is t.held.rising t.low t.high base)
+  first = rw t.rows_are (first_is t.held.rising t.low t.high base)
 
   pub extends : extent_of rows ≡ extent
-  extends = rw t.rows_are (extent-is t.held.rising t.low t.high base)
+  extends = rw t.rows_are (extent_is t.held.rising t.low t.high base)
 
   from-base : positions_of (first_of rows) rows ≡ own
   from-base = rw first (rw t.rows_are (positions_shift base own))
@@ -120,19 +120,19 @@ module _ {span base extent : ℕ} {own rows : List ℕ} (t : Trimmed span base e
   size : length rows ≡ length own
   size = rw t.rows_are (length_shift base own)
 
-  pub bitmap-bytes : trimmed_layout 6 rows ≡ digits 2 (length own) ++ digits 2 1 ++ digits 4 base ++ digits 4 extent ++ bitmap_layout extent own
+  pub bitmap_bytes : trimmed_layout 6 rows ≡ digits 2 (length own) ++ digits 2 1 ++ digits 4 base ++ digits 4 extent ++ bitmap_layout extent own
   unfolding trimmed_layout local_layout by_tag pick
-  bitmap-bytes = rw (from-base, first, extends, size)
+  bitmap_bytes = rw (from-base, first, extends, size)
 
-  pub missing-bytes : trimmed_layout 8 rows ≡ digits 4 base ++ digits 2 extent ++ digits 2 (length own) ++ missing_layout extent own
+  pub missing_bytes : trimmed_layout 8 rows ≡ digits 4 base ++ digits 2 extent ++ digits 2 (length own) ++ missing_layout extent own
   unfolding trimmed_layout local_layout by_tag pick
-  missing-bytes = rw (from-base, first, extends, size)
+  missing_bytes = rw (from-base, first, extends, size)
 
   pub in_span : RowSet span rows
   in_span =
       let low : base + 0 ≡ base = omega arith in
       record {
-        rising = rw t.rows_are (rising_wider (omega arith) t.inside (shift-rising base t.held.rising));
+        rising = rw t.rows_are (rising_wider (omega arith) t.inside (shift_rising base t.held.rising));
         some = omega (arith, size, t.held.some);
         most = omega (arith, size, t.held.most);
       }
@@ -152,16 +152,16 @@ module _ (tag span : ℕ) (xs : List ℕ) (bytes : Bytes xs) (ok : accepts tag s
   abbrev v : View
   v = view_of tag span xs
 
-  is-trimmed : v.trimmed ≡ true → Trimmed span v.base v.span (named_in v xs) (names tag span xs)
+  is_trimmed : v.trimmed ≡ true → Trimmed span v.base v.span (named_in v xs) (names tag span xs)
   unfolding ends_ok
-  is-trimmed f =
+  is_trimmed f =
       let p = parts tag span xs bytes ok n in
       let c = parts_count v span xs p in
       let size = named-length v span xs p bytes in
       let ends : both (has (named_in v xs) 0) (has (named_in v xs) (v.span - 1)) ≡ true = sym (pick_true _ _ f) ∙ p.ends in
       record {
         inside = p.inside;
-        held = record { rising = named-rising v span xs p bytes; some = omega (arith, c.some); most = omega (arith, c.most) };
+        held = record { rising = named_rising v span xs p bytes; some = omega (arith, c.some); most = omega (arith, c.most) };
         low = both_left _ _ ends;
         high = both_right _ _ ends;
         rows_are = named_by tag span xs bytes ok n;
@@ -172,14 +172,14 @@ module _ (span : ℕ) (xs : List ℕ) (bytes : Bytes xs) where
   unfolding view_of trimmed_missing_view single_layout pick
   trimmed_missing_back ok =
       let n = not_nine 8 (omega arith) in
-      let t = is-trimmed 8 span xs bytes ok n refl in
+      let t = is_trimmed 8 span xs bytes ok n refl in
       record {
         base = le 4 xs 0;
         extent = le 2 xs 4;
         own = named_in (trimmed_missing_view xs) xs;
         trimmed = t;
-        narrow = missing-span (drop 8 xs) (le 2 xs 4) (le 2 xs 6) (parts 8 span xs bytes ok n).local;
-        bytes = laid 8 span xs bytes ok n ∙ missing-bytes t;
+        narrow = missing_span (drop 8 xs) (le 2 xs 4) (le 2 xs 6) (parts 8 span xs bytes ok n).local;
+        bytes = laid 8 span xs bytes ok n ∙ missing_bytes t;
       }
 
   -- the flag says which of the two
@@ -204,8 +204,8 @@ module _ (span : ℕ) (xs : List ℕ) (bytes : Bytes xs) where
         base = (view_of 6 span xs).base;
         extent = (view_of 6 span xs).span;
         own = named_in (view_of 6 span xs) xs;
-        trimmed = is-trimmed 6 span xs bytes ok n f;
-        bytes = laid 6 span xs bytes ok n ∙ by_flag span (names 6 span xs) f ∙ bitmap-bytes (is-trimmed 6 span xs bytes ok n f);
+        trimmed = is_trimmed 6 span xs bytes ok n f;
+        bytes = laid 6 span xs bytes ok n ∙ by_flag span (names 6 span xs) f ∙ bitmap_bytes (is_trimmed 6 span xs bytes ok n f);
       }))
       (λ f. inl (record { held = row_set 6 span xs bytes ok; bytes = laid 6 span xs bytes ok n ∙ by_no_flag span (names 6 span xs) f }))
       (either (view_of 6 span xs).trimmed)

@@ -30,10 +30,10 @@ unfolding pick
 pick-number true a b = refl
 pick-number false a b = refl
 
-pub pick-not : (t : Bool) (a b : ℕ) → pick t a b ≡ pick (not t) b a
+pub pick_not : (t : Bool) (a b : ℕ) → pick t a b ≡ pick (not t) b a
 unfolding pick
-pick-not true a b = refl
-pick-not false a b = refl
+pick_not true a b = refl
+pick_not false a b = refl
 
 pub pick-both : {A : Type 0} (t u : Bool) (a b : A) → pick (both t u) a b ≡ pick t (pick u a b) b
 unfolding pick both

@@ -14,7 +14,7 @@ use Rattle.model.proofs.Tests.{either, pick_true, pick_false}
 use Rattle.gather_core.specs.Seeds.{windows}
 use Rattle.links.specs.Pairs.{rows_admitted, rows_saving}
 use Rattle.merge.specs.Rule.{merged, offers, cuts_from}
-use Rattle.merge.proofs.Offers.{offers-most}
+use Rattle.merge.proofs.Offers.{offers_most}
 use Rattle.planning.specs.Refusals.{ends_of}
 use Rattle.planning.specs.Segments.{between, cuts_left, offers_for, pieces, segments_of}
 use Rattle.planning.specs.Planning.{planned_segments, planned_offers, planned_form, planned_values, plan_of}
@@ -25,9 +25,9 @@ use Rattle.demands.specs.Demands.{segments_in, offers_in}
 
 -- ---- the seeds: those given, or the windows where none are
 
-pub seeds-given : (rows seeds : List ℕ) → 1 ≤ length seeds → ends_of rows seeds ≡ seeds
+pub seeds_given : (rows seeds : List ℕ) → 1 ≤ length seeds → ends_of rows seeds ≡ seeds
 unfolding ends_of
-seeds-given rows seeds some = pick_false _ _ (ne_eqb (length seeds) 0 (λ z. omega arith))
+seeds_given rows seeds some = pick_false _ _ (ne_eqb (length seeds) 0 (λ z. omega arith))
 
 pub seeds_generated : (rows : List ℕ) → ends_of rows [] ≡ windows rows
 unfolding ends_of
@@ -66,10 +66,10 @@ module _ (start end : ℕ) (rows seeds : List ℕ) (limit words room : ℕ) wher
     plan_offers = rw values refl
 
     pub plan_offers_most : offers_in plan ≤ 3 * (length (ends_of rows seeds) - 1)
-    plan_offers_most = rw plan_offers (offers-most (rows_admitted held) (rows_saving held) (length (ends_of rows seeds)))
+    plan_offers_most = rw plan_offers (offers_most (rows_admitted held) (rows_saving held) (length (ends_of rows seeds)))
 
     pub given_offers_most : 1 ≤ length seeds → offers_in plan ≤ 3 * (length seeds - 1)
-    given_offers_most some = omega (arith, plan_offers_most, ap length (seeds-given rows seeds some))
+    given_offers_most some = omega (arith, plan_offers_most, ap length (seeds_given rows seeds some))
 
 pub generated_offers_most : (start end : ℕ) (rows : List ℕ) (limit words room : ℕ) → (plan_of start end rows [] limit words room).number ≡ 0
     → offers_in (plan_of start end rows [] limit words room) ≤ 3 * (length (windows rows) - 1)

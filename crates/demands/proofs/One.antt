@@ -25,7 +25,7 @@ use Rattle.gather.proofs.Promised.{added-same}
 use Rattle.planning.specs.Planning.{plan_of, plan_out, plan_work}
 use Rattle.plan.specs.Plans.{planned_of}
 use Rattle.plan.specs.declared.Planned.{Planned}
-use Rattle.plan.proofs.Same.{planned-same}
+use Rattle.plan.proofs.Same.{planned_same}
 use Rattle.deletion.specs.Reading as section
 use Rattle.deletion.specs.Striking.{struck_of, strike_of, strike_out, strike_work}
 use Rattle.deletion.specs.declared.Section.{Section}
@@ -129,7 +129,7 @@ PlanSays start end rows seeds limit work out r =
 
 pub plan_rows_once : (start end : ℕ) (rows seeds : List ℕ) (limit : ℕ) (work out : List ℕ) → Once (PlanSays start end rows seeds limit work out)
 plan_rows_once start end rows seeds limit work out a b p q =
-    pair (planned-same a.0 b.0 (alike p.0 q.0)) (pair (alike p.1.0 q.1.0) (alike p.1.1 q.1.1))
+    pair (planned_same a.0 b.0 (alike p.0 q.0)) (pair (alike p.1.0 q.1.0) (alike p.1.1 q.1.1))
 
 -- ordinals are rows of the coverage from 0 to the row count, without seeds
 pub plan_ordinals_once : (count : ℕ) (ordinals : List ℕ) (limit : ℕ) (work out : List ℕ) → Once (PlanSays 0 count ordinals [] limit work out)

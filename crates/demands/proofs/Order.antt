@@ -20,69 +20,69 @@ use Rattle.gather_core.specs.Gather.{answered, impossible, above, rises, first_o
 use Rattle.planning.specs.Refusals.{coverage_fits, count_fits, rows_fit, given_fit, room_fits, early_number}
 use Rattle.planning.specs.Planning.{planned_form, late_number, plan_number, plan_of}
 use Rattle.planning.proofs.Accepted.{answered-number, plan_number_lem}
-use Rattle.seeds.proofs.Ends.{none-fit}
-use Rattle.seeds.proofs.Judging.{ordinals-some}
+use Rattle.seeds.proofs.Ends.{none_fit}
+use Rattle.seeds.proofs.Judging.{ordinals_some}
 use Rattle.deletion.specs.Reading as section
 use Rattle.deletion.specs.Striking.{no_deletions, strike_of}
-use Rattle.deletion.proofs.Bound.{planned-short, limit_short}
+use Rattle.deletion.proofs.Bound.{planned_short, limit_short}
 use Rattle.deletion.specs.declared.Section.{Section}
 use Rattle.deletion.specs.declared.Section.TheVariants.{Empty, Coded}
 use Rattle.demands.specs.Demands.{first_due, taken, plan_tests}
-use Rattle.demands.proofs.Choices.{by_test, pick-number, pick-not, pick_then, pick_else}
+use Rattle.demands.proofs.Choices.{by_test, pick-number, pick_not, pick_then, pick_else}
 
 -- ---- reading: 8, then 7
 
 module _ (tag span : ℕ) (body : List ℕ) where
-  asked-order : (w : Answer) → (asked tag span body w).number ≡ pick (accepts tag span body) w.number 8
+  asked_order : (w : Answer) → (asked tag span body w).number ≡ pick (accepts tag span body) w.number 8
   unfolding asked
-  asked-order w = pick-number (accepts tag span body) w (refused 8)
+  asked_order w = pick-number (accepts tag span body) w (refused 8)
 
   -- 7 where the output has less room than is needed
-  room-order : (need room : ℕ) → (asked tag span body (pick (leb need room) (accepted (need ∷ [])) (refused 7))).number ≡ first_due (taken tag span body ∷ (leb need room, 7) ∷ [])
+  room_order : (need room : ℕ) → (asked tag span body (pick (leb need room) (accepted (need ∷ [])) (refused 7))).number ≡ first_due (taken tag span body ∷ (leb need room, 7) ∷ [])
   unfolding first_due
-  room-order need room = asked-order _ ∙ ap (λ (n : ℕ). pick (accepts tag span body) n 8) (pick-number (leb need room) (accepted (need ∷ [])) (refused 7))
+  room_order need room = asked_order _ ∙ ap (λ (n : ℕ). pick (accepts tag span body) n 8) (pick-number (leb need room) (accepted (need ∷ [])) (refused 7))
 
   pub validate_order : (validate_of tag span body).number ≡ first_due (taken tag span body ∷ [])
   unfolding validate_of first_due
-  validate_order = asked-order _
+  validate_order = asked_order _
 
   pub rank_order : (p : ℕ) → (rank_answer tag span body p).number ≡ first_due (taken tag span body ∷ [])
   unfolding rank_answer first_due
-  rank_order p = asked-order _
+  rank_order p = asked_order _
 
   pub select_order : (k : ℕ) → (select_answer tag span body k).number ≡ first_due (taken tag span body ∷ [])
   unfolding select_answer first_due
-  select_order k = asked-order _
+  select_order k = asked_order _
 
   pub walk_order : (k room : ℕ) → (walk_answer tag span body k room).number ≡ first_due (taken tag span body ∷ [])
   unfolding walk_answer first_due
-  walk_order k room = asked-order _
+  walk_order k room = asked_order _
 
   pub segment_order : (i : ℕ) → (segment_answer tag span body i).number ≡ first_due (taken tag span body ∷ [])
   unfolding segment_answer first_due
-  segment_order i = asked-order _
+  segment_order i = asked_order _
 
-  pub ranks-order : (positions : List ℕ) (room : ℕ) → (ranks_answer tag span body positions room).number ≡ first_due (taken tag span body ∷ (leb (length positions) room, 7) ∷ [])
+  pub ranks_order : (positions : List ℕ) (room : ℕ) → (ranks_answer tag span body positions room).number ≡ first_due (taken tag span body ∷ (leb (length positions) room, 7) ∷ [])
   unfolding ranks_answer
-  ranks-order positions room = room-order (length positions) room
+  ranks_order positions room = room_order (length positions) room
 
-  pub segments-order : (room : ℕ) → (segments_answer tag span body room).number ≡ first_due (taken tag span body ∷ (leb (length (entries_of tag body)) room, 7) ∷ [])
+  pub segments_order : (room : ℕ) → (segments_answer tag span body room).number ≡ first_due (taken tag span body ∷ (leb (length (entries_of tag body)) room, 7) ∷ [])
   unfolding segments_answer
-  segments-order room = room-order (length (entries_of tag body)) room
+  segments_order room = room_order (length (entries_of tag body)) room
 
 -- ---- gathering: 12, 3, 2, 11
 
-answered-is : (n : ℕ) (g : Gatherer) → (answered n g).number ≡ n
+answered_is : (n : ℕ) (g : Gatherer) → (answered n g).number ≡ n
 unfolding answered
-answered-is zero g = refl
-answered-is (suc n) g = refl
+answered_is zero g = refl
+answered_is (suc n) g = refl
 
 module _ (g : Gatherer) (room : ℕ) where
-  number-order : (rising : Bool) (n : ℕ) (after : Gatherer) → or_else (early g room rising n) (late after room)
+  number_order : (rising : Bool) (n : ℕ) (after : Gatherer) → or_else (early g room rising n) (late after room)
       ≡ first_due ((not (impossible g room), 12) ∷ (rising, 3) ∷ (not (ltb 65535 (g.rows + n)), 2) ∷ (not (ltb room after.entries), 11) ∷ [])
   unfolding early late first_due or_else
-  number-order rising n after =
-      rw (pick-not (impossible g room), pick-not (ltb 65535 (g.rows + n)), pick-not (ltb room after.entries))
+  number_order rising n after =
+      rw (pick_not (impossible g room), pick_not (ltb 65535 (g.rows + n)), pick_not (ltb room after.entries))
       (pick_else (not (impossible g room)) 11 _ _
       ∙ ap (λ (k : ℕ). pick (not (impossible g room)) k 12)
       (pick_else rising 2 _ _ ∙ ap (λ (k : ℕ). pick rising k 3) (pick_else (not (ltb 65535 (g.rows + n))) 1 0 _)))
@@ -90,7 +90,7 @@ module _ (g : Gatherer) (room : ℕ) where
   pub row_order : (row : ℕ) → (row_answer g room row).number
       ≡ first_due ((not (impossible g room), 12) ∷ (above g row, 3) ∷ (not (ltb 65535 (g.rows + 1)), 2) ∷ (not (ltb room (added g row).entries), 11) ∷ [])
   unfolding row_answer row_number
-  row_order row = answered-is _ _ ∙ number-order (above g row) 1 (added g row)
+  row_order row = answered_is _ _ ∙ number_order (above g row) 1 (added g row)
 
   -- a page that is not empty
   pub page_order : (rows : List ℕ) → 1 ≤ length rows → (page_answer g room rows).number
@@ -98,12 +98,12 @@ module _ (g : Gatherer) (room : ℕ) where
   unfolding page_answer page_number some_number
   page_order rows some =
       let more : length rows ≡ 0 → ⊥ = λ z. omega arith in
-      answered-is _ _ ∙ pick_false _ _ (ne_eqb (length rows) 0 more) ∙ number-order (both (above g (first_of rows)) (rises rows)) (length rows) (paged g rows)
+      answered_is _ _ ∙ pick_false _ _ (ne_eqb (length rows) 0 more) ∙ number_order (both (above g (first_of rows)) (rises rows)) (length rows) (paged g rows)
 
   -- after test 12 an empty page is accepted
   pub empty_page_order : (page_answer g room []).number ≡ first_due ((not (impossible g room), 12) ∷ [])
   unfolding page_answer page_number first_due
-  empty_page_order = answered-is _ _ ∙ pick_true _ _ (eq-eqb 0 0 refl) ∙ pick-not (impossible g room) 12 0
+  empty_page_order = answered_is _ _ ∙ pick_true _ _ (eq-eqb 0 0 refl) ∙ pick_not (impossible g room) 12 0
 
 -- ---- planning: 1 to 7
 
@@ -167,11 +167,11 @@ module _ (rows limit : ℕ) where
   strike_order ordinals words room small some =
       let bytes = (planned_form 0 rows ordinals []).bytes in
       let long : both (leb bytes (section.body_limit rows)) (leb bytes 65535) ≡ true =
-      let short = planned-short rows ordinals in
+      let short = planned_short rows ordinals in
       both_true _ _ (le-leb _ _ short) (le-leb _ _ (le_trans short (limit_short rows small))) in
       strike_tests ordinals words room some
       ∙ by_test (λ (a b : ℕ). a ≡ b) (section.block_fits rows limit)
-      (λ e. rw (ordinals-some rows (λ z. omega (arith, leb-true 1 rows (both_left _ _ e))) small, none-fit ordinals [] refl, long))
+      (λ e. rw (ordinals_some rows (λ z. omega (arith, leb-true 1 rows (both_left _ _ e))) small, none_fit ordinals [] refl, long))
       (λ e. refl)
 
   -- without deletions, 9 alone

@@ -13,11 +13,11 @@ use borrow.Author.Tests.{eqb-true, eqb-false, le-leb}
 use Rattle.model.specs.Tests.{pick, both}
 use Rattle.model.specs.Lists.{walk_of}
 use Rattle.model.specs.Answers.{Answer, refused, over, ranks_of}
-use Rattle.model.proofs.Tests.{either, pick_true, pick_false, both-second}
+use Rattle.model.proofs.Tests.{either, pick_true, pick_false, both_second}
 use Rattle.directory.specs.declared.Segment.{Segment}
 use Rattle.bodies.specs.Bodies.{accepts, names}
 use Rattle.rowset.specs.Calls.{asked, ranks_answer, ranks_left, walk_answer, walk_left}
-use Rattle.model.proofs.Ranking.{length-ranks}
+use Rattle.model.proofs.Ranking.{length_ranks}
 use Rattle.tables.specs.Tables.{entries_of, segments_answer, segments_left}
 use Rattle.gather_core.specs.declared.Gatherer.{Gatherer}
 use Rattle.gather_core.specs.Gather.{answered, kept, row_answer, row_table, page_answer, page_table}
@@ -30,19 +30,19 @@ use Rattle.planning.proofs.Dividing.{early_divided}
 use Rattle.deletion.specs.Reading as section
 use Rattle.deletion.specs.Striking.{no_deletions, strikes, strike_of, strike_out, strike_work}
 use Rattle.deletion.specs.declared.Section.{Section}
-use Rattle.planning.proofs.Sound.{early-most}
+use Rattle.planning.proofs.Sound.{early_most}
 use Rattle.demands.specs.Demands.{Kept, written, bytes_in, Zeroed}
 use Rattle.demands.proofs.Choices.{by_test, together, pick-both, over_beyond}
 
 -- ---- reading
 
 module _ (tag span : ℕ) (body : List ℕ) where
-  pub ranks-kept : (positions old : List ℕ) → Kept (written (ranks_answer tag span body positions (length old))) (ranks_answer tag span body positions (length old)) old (ranks_left tag span body positions old)
+  pub ranks_kept : (positions old : List ℕ) → Kept (written (ranks_answer tag span body positions (length old))) (ranks_answer tag span body positions (length old)) old (ranks_left tag span body positions old)
   unfolding ranks_answer ranks_left asked
-  ranks-kept positions old =
+  ranks_kept positions old =
       together (λ (w : Answer) (new : List ℕ). Kept (written w) w old new) (accepts tag span body)
       (together (λ (w : Answer) (new : List ℕ). Kept (written w) w old new) (leb (length positions) (length old))
-      ((λ h. absurd (h refl)), over_beyond (ranks_of (names tag span body) positions) old (length positions) (length-ranks (names tag span body) positions))
+      ((λ h. absurd (h refl)), over_beyond (ranks_of (names tag span body) positions) old (length positions) (length_ranks (names tag span body) positions))
       ((λ h. refl), refl))
       ((λ h. refl), refl)
 
@@ -53,9 +53,9 @@ module _ (tag span : ℕ) (body : List ℕ) where
       ((λ h. absurd (h refl)), over_beyond (walk_of (names tag span body) from (length old)) old _ refl)
       ((λ h. refl), refl)
 
-  pub segments-kept : (old : List Segment) → Kept (written (segments_answer tag span body (length old))) (segments_answer tag span body (length old)) old (segments_left tag span body old)
+  pub segments_kept : (old : List Segment) → Kept (written (segments_answer tag span body (length old))) (segments_answer tag span body (length old)) old (segments_left tag span body old)
   unfolding segments_answer segments_left asked
-  segments-kept old =
+  segments_kept old =
       together (λ (w : Answer) (new : List Segment). Kept (written w) w old new) (accepts tag span body)
       (together (λ (w : Answer) (new : List Segment). Kept (written w) w old new) (leb (length (entries_of tag body)) (length old))
       ((λ h. absurd (h refl)), over_beyond (entries_of tag body) old _ refl)
@@ -112,7 +112,7 @@ module _ (start end : ℕ) (rows seeds : List ℕ) (limit : ℕ) (work out : Lis
       (λ q.
       let same : answer.number ≡ before = e ∙ pick_false after before q in
       let some : before ≡ 0 → ⊥ = eqb-false before 0 q in
-      inl (omega (arith, some), omega (arith, early-most start end rows seeds (length work)), q))
+      inl (omega (arith, some), omega (arith, early_most start end rows seeds (length work)), q))
       (either (eqb before 0))
 
   pub plan_kept : Kept (bytes_in answer) answer out (plan_out start end rows seeds limit (length work) out)
@@ -204,5 +204,5 @@ module _ (rows limit : ℕ) where
   pub strike_nothing : (work out : List ℕ) → (strike_out rows limit [] (length work) out ≡ out) × (strike_work rows limit [] work ≡ work)
   unfolding strike_out strike_work strikes
   strike_nothing work out =
-      let none = both-second (section.block_fits rows limit) (leb 1 0) refl in
+      let none = both_second (section.block_fits rows limit) (leb 1 0) refl in
       (pick_false _ _ none, pick_false _ _ none)

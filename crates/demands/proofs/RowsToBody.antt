@@ -9,12 +9,12 @@ use Rattle.forms.specs.Forms.{by_tag, local_layout}
 use Rattle.forms.specs.RowSets.{RowSet}
 use Rattle.single.specs.Layout.{plain_layout, single_layout}
 use Rattle.segmented.specs.Cuts.{cut_layout}
-use Rattle.segmented.proofs.CutOut.{cut-accepted, cut-named}
+use Rattle.segmented.proofs.CutOut.{cut_accepted, cut_named}
 use Rattle.bodies.specs.Bodies.{Holds}
 use Rattle.bodies.proofs.Laws.{accepts_nine, names_nine}
-use Rattle.planning.proofs.Singly.{SingleFits, dense, list32, list16, runs16, runs32, bitmap, trimmed-bitmap, missing, trimmed-missing, single_holds}
+use Rattle.planning.proofs.Singly.{SingleFits, dense, list32, list16, runs16, runs32, bitmap, trimmed_bitmap, missing, trimmed_missing, single_holds}
 use Rattle.demands.specs.Layouts.{Dense, Items, Runs, PlainBitmap, TrimmedBitmap, Missing, TrimmedMissing, Segmented}
-use Rattle.demands.proofs.BodyToRows.{extends, bitmap-bytes, missing-bytes, in_span}
+use Rattle.demands.proofs.BodyToRows.{extends, bitmap_bytes, missing_bytes, in_span}
 
 module _ {span : ℕ} {rows : List ℕ} (wide : span ≤ 4294967295) where
   holds : {tag : ℕ} {trims : Bool} {body : List ℕ} → RowSet span rows → SingleFits span rows tag trims → body ≡ single_layout tag trims span rows → Holds tag span rows body
@@ -47,7 +47,7 @@ module _ {span : ℕ} {rows : List ℕ} (wide : span ≤ 4294967295) where
 
     pub trimmed_bitmap_forth : TrimmedBitmap span rows body → Holds 6 span rows body
     unfolding single_layout pick
-    trimmed_bitmap_forth d = holds (in_span d.trimmed) trimmed-bitmap (d.bytes ∙ sym (bitmap-bytes d.trimmed))
+    trimmed_bitmap_forth d = holds (in_span d.trimmed) trimmed_bitmap (d.bytes ∙ sym (bitmap_bytes d.trimmed))
 
     pub missing_forth : Missing span rows body → Holds 7 span rows body
     unfolding single_layout plain_layout local_layout by_tag pick
@@ -55,10 +55,10 @@ module _ {span : ℕ} {rows : List ℕ} (wide : span ≤ 4294967295) where
 
     pub trimmed_missing_forth : TrimmedMissing span rows body → Holds 8 span rows body
     unfolding single_layout pick
-    trimmed_missing_forth d = holds (in_span d.trimmed) (trimmed-missing (rw (extends d.trimmed) d.narrow)) (d.bytes ∙ sym (missing-bytes d.trimmed))
+    trimmed_missing_forth d = holds (in_span d.trimmed) (trimmed_missing (rw (extends d.trimmed) d.narrow)) (d.bytes ∙ sym (missing_bytes d.trimmed))
 
     pub segmented_forth : Segmented span rows body → Holds 9 span rows body
     segmented_forth d = rw d.bytes (record {
-      accepted = accepts_nine 9 span (cut_layout d.at d.n) refl ∙ cut-accepted wide d.fits;
-      named = names_nine 9 span (cut_layout d.at d.n) refl ∙ cut-named wide d.fits ∙ sym d.rows_are;
+      accepted = accepts_nine 9 span (cut_layout d.at d.n) refl ∙ cut_accepted wide d.fits;
+      named = names_nine 9 span (cut_layout d.at d.n) refl ∙ cut_named wide d.fits ∙ sym d.rows_are;
     })

@@ -19,8 +19,8 @@ use Rattle.single.specs.Single.{view_of}
 use Rattle.bodies.specs.Bodies.{accepts, names}
 use Rattle.rowset.specs.Calls.{validate_of, rank_answer, ranks_answer, ranks_left, select_answer, walk_answer, walk_left}
 use Rattle.rowset.proofs.Asking.{answers}
-use Rattle.bodies.proofs.Laws.{names-few}
-use Rattle.bodies.proofs.Named.{names-rising, names-some, no_second_body}
+use Rattle.bodies.proofs.Laws.{names_few}
+use Rattle.bodies.proofs.Named.{names_rising, names_some, no_second_body}
 use Rattle.model.proofs.Positions.{positions_back}
 use Rattle.planning.specs.Planning.{plan_of, plan_out}
 use Rattle.planning.proofs.Accepted.{plan_divided, plan_number_lem}
@@ -64,7 +64,7 @@ module _ (tag span : ℕ) (body : List ℕ) (ok : accepts tag span body ≡ true
   pub names-one : Named tag span body (names tag span body)
   unfolding validate_of rank_answer ranks_answer ranks_left select_answer walk_answer walk_left
   names-one = record {
-    held = record { rising = names-rising tag span body ok bytes; some = names-some tag span body ok bytes; most = names-few tag span body ok bytes };
+    held = record { rising = names_rising tag span body ok bytes; some = names_some tag span body ok bytes; most = names_few tag span body ok bytes };
     counts = sym (answers tag span body ok refl);
     ranks = λ p. sym (answers tag span body ok refl);
     many = λ ps old h.
@@ -74,8 +74,8 @@ module _ (tag span : ℕ) (body : List ℕ) (ok : accepts tag span body ≡ true
   }
 
   -- and no other
-  pub names-only : (rows : List ℕ) → Named tag span body rows → rows ≡ names tag span body
-  names-only rows n =
+  pub names_only : (rows : List ℕ) → Named tag span body rows → rows ≡ names tag span body
+  names_only rows n =
       let size : length rows ≡ length (names tag span body) = ap (λ (a : Answer). get_or a.values 0 0) (sym n.counts ∙ names-one.counts) in
       ext_get_or 0 rows (names tag span body) size (λ i h. at i h (omega arith))
     where
@@ -87,10 +87,10 @@ module _ (tag span : ℕ) (body : List ℕ) (ok : accepts tag span body ≡ true
 -- ---- leaving out the segmented tag, and holding a bitmap's plain and trimmed forms (its flag byte) apart, no second accepted body of
 -- that tag and span names it
 
-pub one-body : (tag span : ℕ) (xs ys : List ℕ) → (tag ≡ 9 → ⊥) → accepts tag span xs ≡ true → accepts tag span ys ≡ true → Bytes xs → Bytes ys
+pub one_body : (tag span : ℕ) (xs ys : List ℕ) → (tag ≡ 9 → ⊥) → accepts tag span xs ≡ true → accepts tag span ys ≡ true → Bytes xs → Bytes ys
     → (tag ≡ 6 → get_or xs 2 0 ≡ get_or ys 2 0) → (rows : List ℕ) → Named tag span xs rows → Named tag span ys rows → xs ≡ ys
-one-body tag span xs ys n ok ok' b b' flag rows p q =
-    no_second_body tag span xs ys n ok ok' b b' trimmed (sym (names-only tag span xs ok b rows p) ∙ names-only tag span ys ok' b' rows q)
+one_body tag span xs ys n ok ok' b b' flag rows p q =
+    no_second_body tag span xs ys n ok ok' b b' trimmed (sym (names_only tag span xs ok b rows p) ∙ names_only tag span ys ok' b' rows q)
   where
     trimmed : tag ≡ 6 → (view_of tag span xs).trimmed ≡ (view_of tag span ys).trimmed
     trimmed e = rw e (bitmap_flag span xs b (rw e at ok) ∙ ap (λ (x : ℕ). eqb x 1) (flag e) ∙ sym (bitmap_flag span ys b' (rw e at ok')))

@@ -25,26 +25,26 @@ pub byte_is : (xs : List ℕ) (base i : ℕ) → get_or xs (base + i * 16) 0 ≡
 unfolding entry le
 byte_is xs base i = sym (add-zero _)
 
-pub entry-is : (xs : List ℕ) (i : ℕ) {start span count ordinal offset size : ℕ} → start ≡ le 4 xs (4 + i * 16) → span ≡ le 2 xs (8 + i * 16) → count ≡ le 2 xs (10 + i * 16)
+pub entry_is : (xs : List ℕ) (i : ℕ) {start span count ordinal offset size : ℕ} → start ≡ le 4 xs (4 + i * 16) → span ≡ le 2 xs (8 + i * 16) → count ≡ le 2 xs (10 + i * 16)
     → ordinal ≡ le 2 xs (12 + i * 16) → offset ≡ le 2 xs (14 + i * 16) → size ≡ le 2 xs (16 + i * 16)
     → ◌≡◌ {A = Segment} (record { start = start; span = span; count = count; ordinal = ordinal; offset = offset; length = size; tag = get_or xs (18 + i * 16) 0 }) (entry_of xs i)
 unfolding entry_of entry
-entry-is xs i a b c d e f = rw (a, b, c, d, e, f, byte_is)
+entry_is xs i a b c d e f = rw (a, b, c, d, e, f, byte_is)
 
 -- ---- the code's flags
 
-pub local-is : (t : ℕ) → (eqb t 1 || (eqb t 3 || (eqb t 4 || (eqb t 6 || eqb t 7)))) ≡ is_local t
+pub local_is : (t : ℕ) → (eqb t 1 || (eqb t 3 || (eqb t 4 || (eqb t 6 || eqb t 7)))) ≡ is_local t
 unfolding is_local
-local-is t = simp or_pick
+local_is t = simp or_pick
 
 pub counted_is : (span n : ℕ) → n ≤ 65535 → (leb 1 n && leb n span) ≡ counted span n
 unfolding counted
 counted_is span n h = rw (le-leb n 65535 h) (simp (and_both, both_yes))
 
-pub fits-is : (e : Segment) (nought free rows at span : ℕ) {some local : Bool} → some ≡ counted e.span e.count → local ≡ is_local e.tag
+pub fits_is : (e : Segment) (nought free rows at span : ℕ) {some local : Bool} → some ≡ counted e.span e.count → local ≡ is_local e.tag
     → ((leb free e.start && leb (e.start + e.span) span) && ((some && (local && eqb nought 0)) && (eqb e.ordinal rows && eqb e.offset at))) ≡ fits e nought free rows at span
 unfolding fits
-fits-is e nought free rows at span s l = rw (s, l) (simp and_both)
+fits_is e nought free rows at span s l = rw (s, l) (simp and_both)
 
 -- ---- the loop over the entries: the flag, where the segment before ends, the rows so far, and where the next payload lies
 pub record Standing (xs : List ℕ) (span n i : ℕ) (ok : Bool) (free rows at : ℕ) : Type 0 where

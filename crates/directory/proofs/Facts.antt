@@ -9,25 +9,25 @@ use native.Mathlib.Nat.{eq-or-lt_of_le}
 use native.Mathlib.Omega.{arith}
 use lib.ListN.{length, length-take, length-drop}
 use Rattle.model.specs.Tests.{total}
-use Rattle.model.proofs.Sums.{total-le, total-within}
-use Rattle.model.proofs.Windows.{windows-apart, windows-level}
+use Rattle.model.proofs.Sums.{total-le, total_within}
+use Rattle.model.proofs.Windows.{windows_apart, windows_level}
 use Rattle.search.specs.Search.{up_to, Cut}
-use Rattle.search.proofs.Laws.{falls_level, at_most, above, find-cut}
+use Rattle.search.proofs.Laws.{falls_level, at_most, above, find_cut}
 use Rattle.directory.specs.Directory.{stated_count, start_at, span_at, count_at, ordinal_at, offset_at, length_at, part_of, rows_before, end_before, starts_to, ordinals_to}
 use Rattle.directory.proofs.Parts.{Directory}
 
 module _ {xs : List ℕ} {span n : ℕ} (d : Directory xs span n) where
   -- ---- starts
 
-  next-apart : (i : ℕ) → suc i < n → start_at xs i + span_at xs i ≤ start_at xs (suc i)
+  next_apart : (i : ℕ) → suc i < n → start_at xs i + span_at xs i ≤ start_at xs (suc i)
   unfolding end_before
-  next-apart i h = (d.fit (suc i) h).apart
+  next_apart i h = (d.fit (suc i) h).apart
 
-  pub segments-apart : (i j : ℕ) → i < j → j < n → start_at xs i + span_at xs i ≤ start_at xs j
-  segments-apart = windows-apart (start_at xs) (λ (i : ℕ). start_at xs i + span_at xs i) n (λ i l. omega arith) next-apart
+  pub segments_apart : (i j : ℕ) → i < j → j < n → start_at xs i + span_at xs i ≤ start_at xs j
+  segments_apart = windows_apart (start_at xs) (λ (i : ℕ). start_at xs i + span_at xs i) n (λ i l. omega arith) next_apart
 
   pub starts_level : (i j : ℕ) → i ≤ j → j < n → start_at xs i ≤ start_at xs j
-  starts_level = windows-level (start_at xs) (λ (i : ℕ). start_at xs i + span_at xs i) n (λ i l. omega arith) next-apart
+  starts_level = windows_level (start_at xs) (λ (i : ℕ). start_at xs i + span_at xs i) n (λ i l. omega arith) next_apart
 
   -- a position of a segment, counted from the start of the whole, fits 32 bits
   pub no_wrap : span ≤ 4294967295 → (i p : ℕ) → i < n → p < span_at xs i → start_at xs i + p < 4294967296
@@ -43,25 +43,25 @@ module _ {xs : List ℕ} {span n : ℕ} (d : Directory xs span n) where
   unfolding total
   ordinal_next i h = rw (d.fit i h).ordinal
 
-  pub ordinals-level : (i j : ℕ) → i ≤ j → j < n → ordinal_at xs i ≤ ordinal_at xs j
-  ordinals-level i j l h = rw ((d.fit i (omega arith)).ordinal, (d.fit j h).ordinal) (total-le (count_at xs) i j l)
+  pub ordinals_level : (i j : ℕ) → i ≤ j → j < n → ordinal_at xs i ≤ ordinal_at xs j
+  ordinals_level i j l h = rw ((d.fit i (omega arith)).ordinal, (d.fit j h).ordinal) (total-le (count_at xs) i j l)
 
   -- ---- payloads
 
-  pub payload-inside : (i : ℕ) → i < n → offset_at xs i + length_at xs i ≤ length xs
-  payload-inside i h = omega (arith, (d.fit i h).payload, total-within (length_at xs) i n h, d.end)
+  pub payload_inside : (i : ℕ) → i < n → offset_at xs i + length_at xs i ≤ length xs
+  payload_inside i h = omega (arith, (d.fit i h).payload, total_within (length_at xs) i n h, d.end)
 
   pub payload-length : (i : ℕ) → i < n → length (part_of xs i) ≡ length_at xs i
   unfolding part_of
-  payload-length i h = let w = payload-inside i h in simp (length-take, length-drop) (omega arith)
+  payload-length i h = let w = payload_inside i h in simp (length-take, length-drop) (omega arith)
 
   -- ---- searching
 
   pub starts_cut : (p : ℕ) → Cut (up_to false (start_at xs) p) n (starts_to xs n p)
-  starts_cut p = find-cut _ n (falls_level (start_at xs) p n starts_level)
+  starts_cut p = find_cut _ n (falls_level (start_at xs) p n starts_level)
 
-  pub ordinals-cut : (k : ℕ) → Cut (up_to false (ordinal_at xs) k) n (ordinals_to xs n k)
-  ordinals-cut k = find-cut _ n (falls_level (ordinal_at xs) k n ordinals-level)
+  pub ordinals_cut : (k : ℕ) → Cut (up_to false (ordinal_at xs) k) n (ordinals_to xs n k)
+  ordinals_cut k = find_cut _ n (falls_level (ordinal_at xs) k n ordinals_level)
 
 -- segment i holds ordinal k
 pub record Holds (xs : List ℕ) (n k i : ℕ) : Type 0 where
@@ -70,9 +70,9 @@ pub record Holds (xs : List ℕ) (n k i : ℕ) : Type 0 where
   pub within : k - ordinal_at xs i < count_at xs i
 
 module _ {xs : List ℕ} {span n : ℕ} (d : Directory xs span n) (k : ℕ) (h : k < stated_count xs) where
-  holds-cut : (f : ℕ) → Cut (up_to false (ordinal_at xs) k) n f → (0 < f) × Holds xs n k (f - 1)
-  holds-cut zero c = absurd (omega (arith, above (ordinal_at xs) k _ (c.from 0 (omega arith) d.some), ordinal_first d))
-  holds-cut (suc i) c =
+  holds_cut : (f : ℕ) → Cut (up_to false (ordinal_at xs) k) n f → (0 < f) × Holds xs n k (f - 1)
+  holds_cut zero c = absurd (omega (arith, above (ordinal_at xs) k _ (c.from 0 (omega arith) d.some), ordinal_first d))
+  holds_cut (suc i) c =
       let e : suc i - 1 ≡ i = omega arith in
       let l : i < n = c.within in
       let low : ordinal_at xs i ≤ k = at_most (ordinal_at xs) k i (c.below i (omega arith)) in
@@ -82,4 +82,4 @@ module _ {xs : List ℕ} {span n : ℕ} (d : Directory xs span n) (k : ℕ) (h :
 
   -- the search by ordinal finds the segment that holds it
   pub ordinal_holds : {f : ℕ} → f ≡ ordinals_to xs n k → (0 < f) × Holds xs n k (f - 1)
-  ordinal_holds e = rw e (holds-cut (ordinals_to xs n k) (ordinals-cut d k))
+  ordinal_holds e = rw e (holds_cut (ordinals_to xs n k) (ordinals_cut d k))

@@ -9,12 +9,12 @@ use lib.ListN.{length, length-append}
 use lib.Seq.{drop-append-add, take_at}
 use Rattle.fields.specs.Le.{le, digits}
 use Rattle.fields.proofs.Laws.{le-digits, length_digits}
-use Rattle.fields.proofs.Tables.{le-first, le-second, le_head, le_next}
+use Rattle.fields.proofs.Tables.{le_first, le_second, le_head, le_next}
 use Rattle.model.specs.Tests.{flat, total}
 use Rattle.model.specs.Lists.{shift}
 use Rattle.model.proofs.Tests.{flat-same}
-use Rattle.model.proofs.Sums.{total-within, total-same, total_constant, flat-total}
-use Rattle.model.proofs.Pieces.{flat_split, flat-rest}
+use Rattle.model.proofs.Sums.{total_within, total-same, total_constant, flat-total}
+use Rattle.model.proofs.Pieces.{flat_split, flat_rest}
 use Rattle.model.proofs.Counted.{Count}
 use Rattle.search.specs.Search.{entry}
 use Rattle.directory.specs.Directory.{stated_count, stated_segments, zero_at, entry_of, part_of, rows_before, bytes_before, directory_size, end_before, is_local, directory_accepts, piece_of, names_of}
@@ -51,11 +51,11 @@ module _ (s : Plan) (n i : ℕ) (m : Small s n) (l : i < n) where
 
   count_laid : le 2 (entry_layout s n i) 6 ≡ s.count i
   unfolding entry_layout
-  count_laid = le_next 2 4 _ _ 2 ∙ le_next 2 2 _ _ 0 ∙ le_head 2 _ _ (omega (arith, total-within s.count i n l, m.rows))
+  count_laid = le_next 2 4 _ _ 2 ∙ le_next 2 2 _ _ 0 ∙ le_head 2 _ _ (omega (arith, total_within s.count i n l, m.rows))
 
   ordinal_laid : le 2 (entry_layout s n i) 8 ≡ total s.count i
   unfolding entry_layout
-  ordinal_laid = le_next 2 4 _ _ 4 ∙ le_next 2 2 _ _ 2 ∙ le_next 2 2 _ _ 0 ∙ le_head 2 _ _ (omega (arith, total-within s.count i n l, m.rows))
+  ordinal_laid = le_next 2 4 _ _ 4 ∙ le_next 2 2 _ _ 2 ∙ le_next 2 2 _ _ 0 ∙ le_head 2 _ _ (omega (arith, total_within s.count i n l, m.rows))
 
   offset_laid : le 2 (entry_layout s n i) 10 ≡ directory_size n + total s.size i
   unfolding entry_layout
@@ -87,13 +87,13 @@ unfolding directory_layout
 length_layout s n = simp (length-append, length_digits) (omega (arith, length_entries s n n))
 
 module _ (s : Plan) (n : ℕ) (ys : List ℕ) where
-  pub count-stated : Small s n → stated_count (directory_layout s n ++ ys) ≡ total s.count n
+  pub count_stated : Small s n → stated_count (directory_layout s n ++ ys) ≡ total s.count n
   unfolding directory_layout
-  count-stated m = le-first 2 (directory_layout s n) ys 0 (omega (arith, length_layout s n)) ∙ le_head 2 (total s.count n) (digits 2 n ++ flat (entry_layout s n) n) m.rows
+  count_stated m = le_first 2 (directory_layout s n) ys 0 (omega (arith, length_layout s n)) ∙ le_head 2 (total s.count n) (digits 2 n ++ flat (entry_layout s n) n) m.rows
 
-  pub segments-stated : Small s n → stated_segments (directory_layout s n ++ ys) ≡ n
+  pub segments_stated : Small s n → stated_segments (directory_layout s n ++ ys) ≡ n
   unfolding directory_layout
-  segments-stated m = le-first 2 (directory_layout s n) ys 2 (omega (arith, length_layout s n)) ∙ le_next 2 2 (total s.count n) (digits 2 n ++ flat (entry_layout s n) n) 0 ∙ le_head 2 n (flat (entry_layout s n) n) m.segments
+  segments_stated m = le_first 2 (directory_layout s n) ys 2 (omega (arith, length_layout s n)) ∙ le_next 2 2 (total s.count n) (digits 2 n ++ flat (entry_layout s n) n) 0 ∙ le_head 2 n (flat (entry_layout s n) n) m.segments
 
   -- a field of entry i
   field_laid : (w base off i : ℕ) → base ≡ 4 + off → off + w ≤ 16 → i < n → entry w (directory_layout s n ++ ys) base 16 i ≡ le w (entry_layout s n i) off
@@ -101,11 +101,11 @@ module _ (s : Plan) (n : ℕ) (ys : List ℕ) where
   field_laid w base off i q h l =
       let rest = flat (λ (j : ℕ). entry_layout s n (suc i + j)) (n - suc i) in
       let e : base + i * 16 ≡ 2 + (2 + (16 * i + off)) = omega arith in
-      rw e (le-first w (directory_layout s n) ys (2 + (2 + (16 * i + off))) (omega (arith, length_layout s n))
+      rw e (le_first w (directory_layout s n) ys (2 + (2 + (16 * i + off))) (omega (arith, length_layout s n))
       ∙ le_next w 2 (total s.count n) (digits 2 n ++ flat (entry_layout s n) n) (2 + (16 * i + off)) ∙ le_next w 2 n (flat (entry_layout s n) n) (16 * i + off)
       ∙ ap (λ (zs : List ℕ). le w zs (16 * i + off)) (flat_split (entry_layout s n) n i l)
-      ∙ le-second w (flat (entry_layout s n) i) (entry_layout s n i ++ rest) (16 * i) off (length_entries s n i)
-      ∙ le-first w (entry_layout s n i) rest off (omega (arith, length-entry s n i)))
+      ∙ le_second w (flat (entry_layout s n) i) (entry_layout s n i ++ rest) (16 * i) off (length_entries s n i)
+      ∙ le_first w (entry_layout s n i) rest off (omega (arith, length-entry s n i)))
 
   -- entry i reads back
   pub entry_laid : Small s n → (i : ℕ) → i < n
@@ -174,11 +174,11 @@ module _ (s : Plan) (n : ℕ) (ys : List ℕ) (m : Small s n) where
   pub laid_directory : {span : ℕ} → Sound s span n → length ys ≡ total s.size n → Directory (directory_layout s n ++ ys) span n
   laid_directory {span} o e =
       let size : length (directory_layout s n ++ ys) ≡ directory_size n + total s.size n = length-append (directory_layout s n) ys ∙ rw (length_layout s n, e) in
-      let stated = count-stated s n ys m in
+      let stated = count_stated s n ys m in
       record {
         some = o.some;
         room = omega (arith, size);
-        rows = rw stated (record { some = omega (arith, (o.rows 0 o.some).some, total-within s.count 0 n o.some); within = o.few; most = omega (arith, m.rows) });
+        rows = rw stated (record { some = omega (arith, (o.rows 0 o.some).some, total_within s.count 0 n o.some); within = o.few; most = omega (arith, m.rows) });
         fit = λ i l. fit_laid o i l;
         sum = rows_laid n (omega arith) ∙ sym stated;
         end = rw (bytes_laid n (omega arith)) (sym size);
@@ -186,13 +186,13 @@ module _ (s : Plan) (n : ℕ) (ys : List ℕ) (m : Small s n) where
 
   pub laid_accepts : {span : ℕ} → Sound s span n → length ys ≡ total s.size n → directory_accepts (directory_layout s n ++ ys) span ≡ true
   laid_accepts {span} o e =
-      let stated = segments-stated s n ys m in
+      let stated = segments_stated s n ys m in
       directory_accepts_lem (directory_layout s n ++ ys) span (rw stated (laid_directory o e))
 
   -- what is named, by the plan's starts
   pub names_laid : (g : ℕ → List ℕ) → names_of (directory_layout s n ++ ys) g ≡ flat (λ (i : ℕ). shift (s.start i) (g i)) n
   unfolding names_of piece_of entry_of
-  names_laid g = rw (segments-stated s n ys m) (flat-same _ _ n (λ i l. rw (part_laid (λ e. e.start) i l)))
+  names_laid g = rw (segments_stated s n ys m) (flat-same _ _ n (λ i l. rw (part_laid (λ e. e.start) i l)))
 
 -- the payloads read back
 pub payload_laid : (s : Plan) (n : ℕ) (part : ℕ → List ℕ) → Small s n → ((i : ℕ) → i < n → length (part i) ≡ s.size i) → (i : ℕ) → i < n
@@ -203,4 +203,4 @@ payload_laid s n part m h i l =
     let offset = part_laid s n (flat part n) m (λ e. e.offset) i l in
     let size = part_laid s n (flat part n) m (λ e. e.length) i l in
     let front : total s.size i ≡ length (flat part i) = sym (flat-total part s.size i (λ j q. h j (omega arith))) in
-    rw (size, offset, ← length_layout s n, drop-append-add (directory_layout s n) (flat part n) (total s.size i), front, flat-rest part n i l) (take_at (part i) rest (s.size i) (h i l))
+    rw (size, offset, ← length_layout s n, drop-append-add (directory_layout s n) (flat part n) (total s.size i), front, flat_rest part n i l) (take_at (part i) rest (s.size i) (h i l))

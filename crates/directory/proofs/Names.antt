@@ -10,13 +10,13 @@ use lib.ListN.{length, get_or}
 use Rattle.model.specs.Tests.{flat}
 use Rattle.model.specs.Lists.{Rising, below, has}
 use Rattle.model.proofs.Sums.{flat-total}
-use Rattle.model.proofs.Append.{length_shift, get_d_shift, shift-rising, below_shifted, has_shifted}
-use Rattle.model.proofs.Pieces.{Pieces, pieces-rising, pieces_none, pieces_place, pieces_select}
+use Rattle.model.proofs.Append.{length_shift, get_or-shift, shift_rising, below_shifted, has_shifted}
+use Rattle.model.proofs.Pieces.{Pieces, pieces_rising, pieces_none, pieces_place, pieces_select}
 use Rattle.search.specs.Search.{up_to, Cut}
 use Rattle.search.proofs.Laws.{at_most, above}
 use Rattle.directory.specs.Directory.{stated_count, stated_segments, start_at, span_at, count_at, ordinal_at, rows_before, starts_to, ordinals_to, piece_of, names_of}
 use Rattle.directory.proofs.Parts.{Directory}
-use Rattle.directory.proofs.Facts.{segments-apart, starts_cut, Holds, ordinal_holds}
+use Rattle.directory.proofs.Facts.{segments_apart, starts_cut, Holds, ordinal_holds}
 
 -- ---- what is asked of the segments: each names positions below its span, as many as it states
 
@@ -37,16 +37,16 @@ module _ {xs : List ℕ} {span : ℕ} (d : Directory xs span (stated_segments xs
   pub names-pieces : Pieces (piece_of xs g) (start_at xs) (λ (i : ℕ). start_at xs i + span_at xs i) (stated_segments xs) 0 span
   unfolding piece_of
   names-pieces = record {
-    inside = λ i l. rw (add-zero (start_at xs i)) at (shift-rising (start_at xs i) (s.rising i l));
+    inside = λ i l. rw (add-zero (start_at xs i)) at (shift_rising (start_at xs i) (s.rising i l));
     first = λ i l. omega arith;
     wide = λ i l. omega arith;
     last = λ i l. (d.fit i l).within;
-    apart = λ i j l h. segments-apart d i j l h;
+    apart = λ i j l h. segments_apart d i j l h;
   }
 
-  pub names-rising : Rising 0 span (names_of xs g)
+  pub names_rising : Rising 0 span (names_of xs g)
   unfolding names_of
-  names-rising = pieces-rising (stated_segments xs) (omega arith) names-pieces
+  names_rising = pieces_rising (stated_segments xs) (omega arith) names-pieces
 
   pub piece_length : (i : ℕ) → i < stated_segments xs → length (piece_of xs g i) ≡ count_at xs i
   unfolding piece_of
@@ -99,7 +99,7 @@ module _ {xs : List ℕ} {span : ℕ} (d : Directory xs span (stated_segments xs
       let l : k - ordinal_at xs i < length (piece_of xs g i) = rw (piece_length i h.inside) h.within in
       let m : k - ordinal_at xs i < length (g i) = rw (s.sized i h.inside) h.within in
       rw (front_ordinal i h.inside, e) at (pieces_select (piece_of xs g) (stated_segments xs) i (k - ordinal_at xs i) h.inside l)
-      ∙ get_d_shift (start_at xs i) (g i) (k - ordinal_at xs i) m
+      ∙ get_or-shift (start_at xs i) (g i) (k - ordinal_at xs i) m
 
   pub select_in_lem : {f n : ℕ} (k : ℕ) → n ≡ stated_segments xs → f ≡ ordinals_to xs n k → k < stated_count xs
       → (0 < f) × (Holds xs (stated_segments xs) k (f - 1)) × (get_or (names_of xs g) k 0 ≡ start_at xs (f - 1) + get_or (g (f - 1)) (k - ordinal_at xs (f - 1)) 0)

@@ -8,8 +8,8 @@ use native.Mathlib.Omega.{arith}
 use lib.ListN.{length}
 use borrow.Author.Tests.{leb-true, eqb-true, le-leb, eq-eqb}
 use Rattle.model.specs.Lists.{counted}
-use Rattle.model.proofs.Tests.{refuse, both_true, both_left, both_right, all-at, all_from}
-use Rattle.model.proofs.Counted.{both_pass, and_both, Count, counted-right, counted-count}
+use Rattle.model.proofs.Tests.{refuse, both_true, both_left, both_right, all_at, all_from}
+use Rattle.model.proofs.Counted.{both_pass, and_both, Count, counted_right, counted_count}
 use Rattle.directory.specs.Directory.{stated_count, stated_segments, start_at, span_at, count_at, ordinal_at, offset_at, tag_at, zero_at, entry_of, rows_before, bytes_before, directory_size, end_before, is_local, fits, segment_fits, segments_fit, directory_accepts}
 
 -- ---- the record
@@ -43,7 +43,7 @@ module _ (xs : List ℕ) (span : ℕ) where
       record {
         apart = leb-true _ _ (both_left _ _ inside);
         within = leb-true _ _ (both_right _ _ inside);
-        rows = counted-count _ _ (both_left _ _ formed);
+        rows = counted_count _ _ (both_left _ _ formed);
         local = both_left _ _ (both_right _ _ formed);
         blank = eqb-true _ _ (both_right _ _ (both_right _ _ formed));
         ordinal = eqb-true _ _ (both_left _ _ stated);
@@ -54,7 +54,7 @@ module _ (xs : List ℕ) (span : ℕ) where
   unfolding segment_fits fits entry_of
   fit-fits n i f =
       both_true _ _ (both_true _ _ (le-leb _ _ f.apart) (le-leb _ _ f.within))
-      (both_true _ _ (both_true _ _ (counted-right _ _ f.rows) (both_true _ _ f.local (eq-eqb _ _ f.blank)))
+      (both_true _ _ (both_true _ _ (counted_right _ _ f.rows) (both_true _ _ f.local (eq-eqb _ _ f.blank)))
       (both_true _ _ (eq-eqb _ _ f.ordinal) (eq-eqb _ _ f.payload)))
 
   -- the law by which readers take an accepted directory apart
@@ -69,8 +69,8 @@ module _ (xs : List ℕ) (span : ℕ) where
       record {
         some = leb-true _ _ (both_left _ _ e₁);
         room = leb-true _ _ (both_left _ _ e₂);
-        rows = counted-count _ _ (both_left _ _ e₃);
-        fit = λ i l. fits-fit (stated_segments xs) i (all-at _ _ (both_left _ _ e₄) i l);
+        rows = counted_count _ _ (both_left _ _ e₃);
+        fit = λ i l. fits-fit (stated_segments xs) i (all_at _ _ (both_left _ _ e₄) i l);
         sum = eqb-true _ _ (both_left _ _ e₅);
         end = eqb-true _ _ (both_right _ _ e₅);
       }
@@ -82,7 +82,7 @@ module _ (xs : List ℕ) (span : ℕ) where
       both_true _ _ (le-leb 4 (length xs) (omega (arith, d.room)))
       (both_true _ _ (le-leb _ _ d.some)
       (both_true _ _ (le-leb _ _ d.room)
-      (both_true _ _ (counted-right _ _ d.rows)
+      (both_true _ _ (counted_right _ _ d.rows)
       (both_true _ _ (all_from _ _ (λ i l. fit-fits (stated_segments xs) i (d.fit i l)))
       (both_true _ _ (eq-eqb _ _ d.sum) (eq-eqb _ _ d.end))))))
 

@@ -27,24 +27,24 @@ pub record Walking (xs : List ℕ) (g : ℕ → List ℕ) (k room i skip : ℕ) 
 
 module _ {xs : List ℕ} {span : ℕ} (d : Directory xs span (stated_segments xs)) {g : ℕ → List ℕ} (s : Named xs g) where
   -- from a place inside segment i: its own rest, then the pieces from i + 1 on
-  pub names-rest : (i j : ℕ) → i < stated_segments xs → j ≤ count_at xs i
+  pub names_rest : (i j : ℕ) → i < stated_segments xs → j ≤ count_at xs i
       → drop (rows_before xs i + j) (names_of xs g) ≡ shift (start_at xs i) (drop j (g i)) ++ flat (λ (m : ℕ). piece_of xs g (suc i + m)) (stated_segments xs - suc i)
   unfolding names_of piece_of
-  names-rest i j l h =
+  names_rest i j l h =
       let rest = flat (λ (m : ℕ). piece_of xs g (suc i + m)) (stated_segments xs - suc i) in
       let w : j ≤ length (piece_of xs g i) = rw (piece_length d s i l) h in
       rw (flat_split (piece_of xs g) (stated_segments xs) i l, ← front_length d s i (omega arith))
       (drop-append-add (flat (piece_of xs g) i) (piece_of xs g i ++ rest) j ∙ drop-append-le j (piece_of xs g i) rest w ∙ ap (λ (ys : List ℕ). ys ++ rest) (sym (shift-drop (start_at xs i) j (g i))))
 
   -- the same, and what follows is what is left after segment i
-  pub names-step : (i j : ℕ) → i < stated_segments xs → j ≤ count_at xs i
+  pub names_step : (i j : ℕ) → i < stated_segments xs → j ≤ count_at xs i
       → drop (rows_before xs i + j) (names_of xs g) ≡ shift (start_at xs i) (drop j (g i)) ++ drop (rows_before xs (suc i)) (names_of xs g)
   unfolding total shift
-  names-step i j l h =
+  names_step i j l h =
       let rest = flat (λ (m : ℕ). piece_of xs g (suc i + m)) (stated_segments xs - suc i) in
       let z : drop (count_at xs i) (g i) ≡ [] = drop_of_length-le (g i) {i = count_at xs i} (omega (arith, s.sized i l)) in
-      let after : drop (rows_before xs i + count_at xs i) (names_of xs g) ≡ rest = names-rest i (count_at xs i) l (omega arith) ∙ rw z in
-      names-rest i j l h ∙ rw after
+      let after : drop (rows_before xs i + count_at xs i) (names_of xs g) ≡ rest = names_rest i (count_at xs i) l (omega arith) ∙ rw z in
+      names_rest i j l h ∙ rw after
 
   -- ---- the loop over the segments
 
@@ -60,7 +60,7 @@ module _ {xs : List ℕ} {span : ℕ} (d : Directory xs span (stated_segments xs
       record {
         within = l;
         rows = λ m. omega arith;
-        whole = w.whole ∙ rw (names-step i skip l (w.rows l), take-append left piece rest, here, size, add-zero (rows_before xs (suc i))) (sym (append_assoc written part _));
+        whole = w.whole ∙ rw (names_step i skip l (w.rows l), take-append left piece rest, here, size, add-zero (rows_before xs (suc i))) (sym (append_assoc written part _));
       }
 
   -- past the last segment, or where no room is left

@@ -19,8 +19,8 @@ pub record Emitting (whole before : List ℕ) (at p : ℕ) (rest out : List ℕ)
   pub cut : whole ≡ done ++ rest
 
 -- a piece, and one behind it
-pub written-more : {us vs before mid after : List ℕ} {at p q : ℕ} → Written us at before mid p → Written vs p mid after q → Written (us ++ vs) at before after q
-written-more {us} {vs} {before} {at = at} a b =
+pub written_more : {us vs before mid after : List ℕ} {at p q : ℕ} → Written us at before mid p → Written vs p mid after q → Written (us ++ vs) at before after q
+written_more {us} {vs} {before} {at = at} a b =
     record {
       stands = b.stands ∙ rw (a.stands, a.behind) (sym (sets-append us vs before at));
       behind = omega (arith, a.behind, b.behind, length-append us vs);
@@ -38,7 +38,7 @@ emitting_start whole before at = record { done = []; wrote = record { stands = r
 
 module _ {whole before : List ℕ} {at p : ℕ} {rest out : List ℕ} (s : Emitting whole before at p rest out) where
   pub emitting_next : {vs more out' : List ℕ} {q : ℕ} → Written vs p out out' q → rest ≡ vs ++ more → Emitting whole before at q more out'
-  emitting_next {vs} w e = record { done = s.done ++ vs; wrote = written-more s.wrote w; cut = s.cut ∙ rw (e, append_assoc) }
+  emitting_next {vs} w e = record { done = s.done ++ vs; wrote = written_more s.wrote w; cut = s.cut ∙ rw (e, append_assoc) }
 
   pub emitting_length : length out ≡ length before
   emitting_length = written-length s.wrote

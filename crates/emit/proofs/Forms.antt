@@ -18,26 +18,26 @@ use Rattle.emit.proofs.Rowing.{Form, Step}
 unfoldable pub runs_form : ℕ → Form
 runs_form w i from rs = runs_bytes w i rs
 
-pub runs-whole : (w : ℕ) (xs : List ℕ) → runs_form w 0 0 (runs_of xs) ≡ runs_layout w xs
+pub runs_whole : (w : ℕ) (xs : List ℕ) → runs_form w 0 0 (runs_of xs) ≡ runs_layout w xs
 unfolding runs_form runs_layout
-runs-whole w xs = refl
+runs_whole w xs = refl
 
-pub runs-step : (w b i from start n : ℕ) → Step (runs_form w) b i from start n (runs_bytes w i (run start n ∷ []))
+pub runs_step : (w b i from start n : ℕ) → Step (runs_form w) b i from start n (runs_bytes w i (run start n ∷ []))
 unfolding runs_form runs_bytes
-runs-step w b i from start n rs a = rw append-nil
+runs_step w b i from start n rs a = rw append-nil
 
-pub runs-end : (w i from : ℕ) → runs_form w i from [] ≡ []
+pub runs_end : (w i from : ℕ) → runs_form w i from [] ≡ []
 unfolding runs_form runs_bytes
-runs-end w i from = refl
+runs_end w i from = refl
 
 -- ---- missing: before each run the holes between it and the run before
 
 unfoldable pub missing_form : ℕ → Form
 missing_form span i from rs = list_layout 2 (complement from span (spread rs))
 
-pub missing-whole : (span : ℕ) (xs : List ℕ) → missing_form span 0 0 (runs_of xs) ≡ missing_layout span xs
+pub missing_whole : (span : ℕ) (xs : List ℕ) → missing_form span 0 0 (runs_of xs) ≡ missing_layout span xs
 unfolding missing_form missing_layout
-missing-whole span xs = rw spread-runs_of
+missing_whole span xs = rw spread-runs_of
 
 -- no hole in a run that starts where the last one ended
 complement-run : (a b n : ℕ) (ys : List ℕ) → complement a b (range a n ++ ys) ≡ complement (a + n) b ys
@@ -47,15 +47,15 @@ complement-run a b (suc n) ys =
     let e : a - a ≡ 0 = omega arith in
     rw (e, complement-run (suc a) b n ys, suc-add, add-suc)
 
-complement-step : (from b start n : ℕ) (ys : List ℕ) → 1 ≤ n → complement from b (range start n ++ ys) ≡ range from (start - from) ++ complement (start + n) b ys
+complement_step : (from b start n : ℕ) (ys : List ℕ) → 1 ≤ n → complement from b (range start n ++ ys) ≡ range from (start - from) ++ complement (start + n) b ys
 unfolding range complement
-complement-step from b start zero ys h = absurd (omega arith)
-complement-step from b start (suc n) ys h = rw (complement-run (suc start) b n ys, suc-add, add-suc)
+complement_step from b start zero ys h = absurd (omega arith)
+complement_step from b start (suc n) ys h = rw (complement-run (suc start) b n ys, suc-add, add-suc)
 
-pub missing-step : (span i from start n : ℕ) → 1 ≤ n → Step (missing_form span) span i from start n (list_layout 2 (range from (start - from)))
+pub missing_step : (span i from start n : ℕ) → 1 ≤ n → Step (missing_form span) span i from start n (list_layout 2 (range from (start - from)))
 unfolding missing_form spread
-missing-step span i from start n h rs a = rw (complement-step from span start n (spread rs) h) (layout_append 2 _ _)
+missing_step span i from start n h rs a = rw (complement_step from span start n (spread rs) h) (layout_append 2 _ _)
 
-pub missing-end : (span i from : ℕ) → missing_form span i from [] ≡ list_layout 2 (range from (span - from))
+pub missing_end : (span i from : ℕ) → missing_form span i from [] ≡ list_layout 2 (range from (span - from))
 unfolding missing_form spread complement
-missing-end span i from = refl
+missing_end span i from = refl

@@ -9,8 +9,8 @@ use lib.Dec.{eqb}
 use lib.ListN.{length, get_or}
 use borrow.Author.Tests.{eqb-true, ne_eqb}
 use Rattle.model.specs.Lists.{Rising, positions_of}
-use Rattle.model.proofs.Positions.{length_positions, get_d_positions}
-use Rattle.model.proofs.Rising.{rising-from, rising-room}
+use Rattle.model.proofs.Positions.{length_positions, get_or_positions}
+use Rattle.model.proofs.Rising.{rising_from, rising_room}
 use Rattle.emit.specs.declared.Outlook.{Outlook}
 use Rattle.emit.specs.declared.Word.{Word}
 use Rattle.emit.specs.Words.{with_digit, with_run, Cut, Worded, Wording, Onward, Spaced, Unbroken, Sight}
@@ -18,7 +18,7 @@ use Rattle.emit.proofs.Passing.{Stands, positions_below}
 use Rattle.emit.proofs.Wording.{Stretch, apart, wording_run, wording_next, wording_stop}
 
 pub spaced : {base : ℕ} {rows : List ℕ} → Rising base (base + 4294967295) rows → Spaced rows
-spaced r = record { apart = apart r; few = omega (arith, rising-room (omega arith) r) }
+spaced r = record { apart = apart r; few = omega (arith, rising_room (omega arith) r) }
 
 -- ---- rows without a break
 
@@ -77,7 +77,7 @@ behind base x y q m e h f = omega arith
 
 module _ {base : ℕ} {rows : List ℕ} (r : Rising base (base + 4294967295) rows) {a : Outlook} (s : Sight rows a) {j q : ℕ} (h : a.start ≤ j) (l : j < a.stop) (e : q ≡ get_or rows j 0 - base) where
   run_at : (m : ℕ) → j + m < a.stop → get_or (positions_of base rows) (j + m) 0 ≡ q + m
-  run_at m g = get_d_positions base rows (j + m) (omega arith) ∙ behind base _ _ q m e (rising-from r j (omega arith)) (unbroken_at (spaced r) (s.run (omega arith)) j m h (omega arith))
+  run_at m g = get_or_positions base rows (j + m) (omega arith) ∙ behind base _ _ q m e (rising_from r j (omega arith)) (unbroken_at (spaced r) (s.run (omega arith)) j m h (omega arith))
 
   run-stretch : {n : ℕ} → Part a.stop j q n → Stretch (positions_of base rows) j q n
   run-stretch p = record { some = p.some; fits = p.fits; inside = rw length_positions (omega arith); each = λ m g. run_at m (omega arith) }

@@ -15,7 +15,7 @@ use Rattle.model.proofs.Ranges.{length-range}
 use Rattle.lists.specs.Lists.{list_layout}
 use Rattle.lists.proofs.Bytes.{length_layout}
 use Rattle.runs.specs.Runs.{runs_bytes}
-use Rattle.emit.proofs.Emitting.{Emitting, emitting_start, emitting_next, emitting_room, emitting_end, written-more, written-put}
+use Rattle.emit.proofs.Emitting.{Emitting, emitting_start, emitting_next, emitting_room, emitting_end, written_more, written-put}
 use Rattle.emit.specs.Written.{Written}
 
 -- ---- a field has the lowest digits of its number
@@ -61,10 +61,10 @@ module _ (w start size : ℕ) (before : List ℕ) (at : ℕ) where
 
 -- ---- the entry of a run is three fields
 
-pub entry-fields : (w start size before at : ℕ) {p r : ℕ} {xs ys zs out : List ℕ} → p ≡ at + w → ys ≡ put w xs at start → zs ≡ put 2 ys p size → out ≡ put 2 zs (p + 2) before → r ≡ p + 4
+pub entry_fields : (w start size before at : ℕ) {p r : ℕ} {xs ys zs out : List ℕ} → p ≡ at + w → ys ≡ put w xs at start → zs ≡ put 2 ys p size → out ≡ put 2 zs (p + 2) before → r ≡ p + 4
     → Written (runs_bytes w before (run start size ∷ [])) at xs out r
 unfolding runs_bytes
-entry-fields w start size before at {p} l d e f q = rw append-nil (written-more (written-more (written-put w start at d l) (written-put 2 size p e refl)) (written-put 2 before (p + 2) f (omega arith)))
+entry_fields w start size before at {p} l d e f q = rw append-nil (written_more (written_more (written-put w start at d l) (written-put 2 size p e refl)) (written-put 2 before (p + 2) f (omega arith)))
 
 pub length-entry : (w before start size : ℕ) → length (runs_bytes w before (run start size ∷ [])) ≡ w + 4
 unfolding runs_bytes

@@ -8,9 +8,9 @@ use native.Mathlib.Nat.{le_trans}
 use native.Mathlib.Omega.{arith}
 use lib.ListN.{length, get_or, drop, drop_of_length-le}
 use Rattle.model.specs.Lists.{Rising, Run, run, runs_of, Apart, stop, next}
-use Rattle.model.proofs.Runs.{apart-runs_of}
+use Rattle.model.proofs.Runs.{apart_runs_of}
 use Rattle.stats.specs.Rows.{run_end}
-use Rattle.stats.proofs.RunByRun.{run_at, run-after, run-within}
+use Rattle.stats.proofs.RunByRun.{run_at, run_after, run_within}
 use Rattle.emit.specs.Written.{Written}
 use Rattle.emit.proofs.Emitting.{Emitting, emitting_start, emitting_next, emitting_room}
 
@@ -41,12 +41,12 @@ apart_sooner : {a c b : ℕ} {rs : List Run} → c ≤ a → Apart a b rs → Ap
 apart_sooner h stop = stop
 apart_sooner h (next l q e s) = next (le_trans h l) q e s
 
-apart-rest : {a b : ℕ} {r : Run} {rs : List Run} → Apart a b (r ∷ rs) → Apart (r.start + r.size) b rs
-apart-rest (next l q e s) = apart_sooner (omega arith) s
+apart_rest : {a b : ℕ} {r : Run} {rs : List Run} → Apart a b (r ∷ rs) → Apart (r.start + r.size) b rs
+apart_rest (next l q e s) = apart_sooner (omega arith) s
 
 module _ (form : Form) (b : ℕ) (xs before : List ℕ) (at : ℕ) where
   pub rowing_start : Rising 0 b xs → Rowing form b xs before at at 0 0 before
-  rowing_start r = record { upto = omega arith; inside = omega arith; ahead = apart-runs_of r; so = emitting_start (form 0 0 (runs_of xs)) before at }
+  rowing_start r = record { upto = omega arith; inside = omega arith; ahead = apart_runs_of r; so = emitting_start (form 0 0 (runs_of xs)) before at }
 
   module _ {p i from : ℕ} {out : List ℕ} (s : Rowing form b xs before at p i from out) (h : i < length xs) (start j : ℕ) (a : start ≡ get_or xs i 0) (l : j ≡ run_end xs i) where
     here : runs_of (drop i xs) ≡ run start (j - i) ∷ runs_of (drop j xs)
@@ -56,10 +56,10 @@ module _ (form : Form) (b : ℕ) (xs before : List ℕ) (at : ℕ) where
     rowing_ahead = apart_ahead (rw here at s.ahead)
 
     behind : Apart (start + (j - i)) b (runs_of (drop j xs))
-    behind = apart-rest (rw here at s.ahead)
+    behind = apart_rest (rw here at s.ahead)
 
     pub rowing_within : (i < j) × (j ≤ length xs)
-    rowing_within = rw l (run-after xs i, run-within xs i h)
+    rowing_within = rw l (run_after xs i, run_within xs i h)
 
     pub rowing_room : (vs : List ℕ) → Step form b i from start (j - i) vs → at + length (form 0 0 (runs_of xs)) ≤ length before → p + length vs ≤ length out
     rowing_room vs e r = emitting_room s.so vs _ (ap (form i from) here ∙ e (runs_of (drop j xs)) behind) r

@@ -23,8 +23,8 @@ use Rattle.model.specs.Lists.{Rising, below, range}
 use Rattle.model.proofs.Ranges.{range-append}
 use Rattle.model.proofs.Sets.{sets-append}
 use Rattle.model.proofs.Tests.{either, order, never, strictly, same_or_not, pick_true, pick_false}
-use Rattle.model.proofs.Rising.{rising-below, rising-before, rising-apart}
-use Rattle.model.proofs.Standing.{below-cut}
+use Rattle.model.proofs.Rising.{rising_below, rising_before, rising_apart}
+use Rattle.model.proofs.Standing.{below_cut}
 use Rattle.word.specs.Bits.{num_from}
 use Rattle.word.proofs.Numbers.{num_lt}
 use Rattle.word.proofs.Masks.{num_append, range_or, range_lt, range_up}
@@ -36,7 +36,7 @@ use Rattle.emit.proofs.Passing.{Stands}
 use Rattle.emit.proofs.Storing.{put_comm}
 
 num_below : {b : ℕ} {xs : List ℕ} → Rising 0 b xs → (i : ℕ) → i < length xs → {start : ℕ} → start ≡ get_or xs i 0 → num_from 0 (take i xs) < 2 ^ start
-num_below {b} {xs} r i h {start} a = num_lt start 0 (take i xs) (rw (zero-add, a) (rising-before i r h))
+num_below {b} {xs} r i h {start} a = num_lt start 0 (take i xs) (rw (zero-add, a) (rising_before i r h))
 
 pow_word : (k : ℕ) → 256 ^ (8 * k) ≡ 2 ^ (64 * k)
 pow_word k = let e : 8 * (8 * k) ≡ 64 * k = omega arith in rw (pow_bytes, e)
@@ -45,7 +45,7 @@ pow_word k = let e : 8 * (8 * k) ≡ 64 * k = omega arith in rw (pow_bytes, e)
 
 -- two of them are at least as far apart as their places are
 pub apart : {a b : ℕ} {xs : List ℕ} → Rising a b xs → (i j : ℕ) → i ≤ j → j < length xs → get_or xs i 0 + (j - i) ≤ get_or xs j 0
-apart {xs = xs} r i j h l = ⊎_elim (λ (e : i ≡ j). rw e (omega arith)) (λ (g : i < j). rising-apart r i j g l) (eq-or-lt_of_le h)
+apart {xs = xs} r i j h l = ⊎_elim (λ (e : i ≡ j). rw e (omega arith)) (λ (g : i < j). rising_apart r i j g l) (eq-or-lt_of_le h)
 
 -- n of them from index j on, the first of them q, all in the word of q
 pub record Stretch (xs : List ℕ) (j q n : ℕ) : Type 0 where
@@ -117,9 +117,9 @@ module _ {xs : List ℕ} {k i : ℕ} (c : Cut xs k i) where
       let one : num_from 0 (range (q % 64) 1) ≡ 2 ^ (q % 64) = rw sub-zero (omega arith) in
       rw (d, ← one) (wording_run s r (stretch-one f) e)
 
-pub cut-start : (xs : List ℕ) → Cut xs 0 0
+pub cut_start : (xs : List ℕ) → Cut xs 0 0
 unfolding num_from
-cut-start xs = record { upto = omega arith; under = λ m h. absurd (omega arith); over = λ m g h. omega arith; low = pow_pos (64 * 0) }
+cut_start xs = record { upto = omega arith; under = λ m h. absurd (omega arith); over = λ m g h. omega arith; low = pow_pos (64 * 0) }
 
 -- ---- the loop over words: k of them stand, and the rows before each group that one of them begins
 
@@ -151,7 +151,7 @@ pub record Mapping (span : ℕ) (xs before : List ℕ) (at k i p : ℕ) (out : L
 module _ (span : ℕ) (xs before : List ℕ) (at : ℕ) where
   pub mapping_start : {p : ℕ} → p ≡ at + 2 * groups_of span → Mapping span xs before at 0 0 p before
   unfolding put digits flat num_from
-  mapping_start e = record { within = omega arith; place = omega arith; cut = cut-start xs; so = refl }
+  mapping_start e = record { within = omega arith; place = omega arith; cut = cut_start xs; so = refl }
 
   module _ {k i p : ℕ} {out : List ℕ} (s : Mapping span xs before at k i p out) where
     pub mapping_length : length out ≡ length before
@@ -168,7 +168,7 @@ module _ (span : ℕ) (xs before : List ℕ) (at : ℕ) where
         let f : (k + 1 + 3) / 4 ≡ suc g = omega arith in
         let d : 256 * g ≡ 64 * k = omega arith in
         let c = s.cut in
-        let n : below xs (256 * g) ≡ i = rw d (below-cut xs (64 * k) i c.upto c.under c.over) in
+        let n : below xs (256 * g) ≡ i = rw d (below_cut xs (64 * k) i c.upto c.under c.over) in
         let o : out ≡ standing span xs before at k g i = rw e at s.so in
         rw (o, f, ← heads_more xs before at g i n) (put_comm 2 (8 * k) (sets before at (heads xs g)) (at + 2 * g) (at + 2 * groups_of span) i (num_from 0 (take i xs)) (omega arith))
 
@@ -202,7 +202,7 @@ module _ (span : ℕ) (xs before : List ℕ) (at : ℕ) where
         let w = s.within in
         let e : k ≡ words_of span = omega arith in
         let c = s.cut in
-        let t : length xs ≤ i = ⊎_elim (λ (z : i < length xs). absurd (omega (arith, c.over i (omega arith) z, rising-below r i z))) (λ (z : length xs ≤ i). z) (order i (length xs)) in
+        let t : length xs ≤ i = ⊎_elim (λ (z : i < length xs). absurd (omega (arith, c.over i (omega arith) z, rising_below r i z))) (λ (z : length xs ≤ i). z) (order i (length xs)) in
         let o : out ≡ standing span xs before at (words_of span) (groups_of span) i = rw e at s.so in
         let G = groups_of span in
         let v = digits (8 * words_of span) (num_from 0 xs) in

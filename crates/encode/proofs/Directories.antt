@@ -19,11 +19,11 @@ use Rattle.emit.specs.Written.{Written}
 use Rattle.emit.proofs.Storing.{sets_comm}
 use Rattle.encode.specs.Headers.{entry_bytes}
 use Rattle.encode.specs.Segments.{Placed}
-use Rattle.encode.proofs.Headers.{tag-field}
+use Rattle.encode.proofs.Headers.{tag_field}
 
-entry-bytes : (s : Plan) (n i : ℕ) → s.tag i < 256 → entry_bytes (entry_for s n i) ≡ entry_layout s n i
+entry_bytes_lem : (s : Plan) (n i : ℕ) → s.tag i < 256 → entry_bytes (entry_for s n i) ≡ entry_layout s n i
 unfolding entry_bytes entry_layout
-entry-bytes s n i h = rw (tag-field (s.tag i) h)
+entry_bytes_lem s n i h = rw (tag_field (s.tag i) h)
 
 -- i entries stand behind the four bytes of count and segments, and i payloads behind the room for n entries; the next one goes to at
 pub record Laying (s : Plan) (part : ℕ → List ℕ) (n i : ℕ) (before : List ℕ) (at : ℕ) (out : List ℕ) : Type 0 where
@@ -54,7 +54,7 @@ module _ (s : Plan) (part : ℕ → List ℕ) (n : ℕ) (before : List ℕ) wher
         record {
           upto = omega arith;
           place = rw (flat_step part i, length-append ps (part i)) (omega (arith, w.body.behind, l.place));
-          stands = w.entry.stands ∙ rw (all, entry-bytes s n i t, front, more, flat_step (entry_layout s n) i, flat_step part i);
+          stands = w.entry.stands ∙ rw (all, entry_bytes_lem s n i t, front, more, flat_step (entry_layout s n) i, flat_step part i);
         }
 
     -- count and segments are written last, or first: the four bytes in front

@@ -25,24 +25,24 @@ use Rattle.forms.specs.Forms.{list_tag, runs_tag, by_tag, local_layout}
 use Rattle.forms.proofs.Laid.{list_layout_lem, runs_layout_lem}
 
 module _ {tag : ℕ} (span : ℕ) (rows : List ℕ) where
-  pub local-list : (wide : Bool) → tag ≡ list_tag wide → local_layout tag span rows ≡ list_layout (width_of wide) rows
-  local-list wide e = rw e (list_layout_lem wide span rows)
+  pub local_list : (wide : Bool) → tag ≡ list_tag wide → local_layout tag span rows ≡ list_layout (width_of wide) rows
+  local_list wide e = rw e (list_layout_lem wide span rows)
 
-  pub local-runs : (wide : Bool) → tag ≡ runs_tag wide → local_layout tag span rows ≡ runs_layout (width_of wide) rows
-  local-runs wide e = rw e (runs_layout_lem wide span rows)
+  pub local_runs : (wide : Bool) → tag ≡ runs_tag wide → local_layout tag span rows ≡ runs_layout (width_of wide) rows
+  local_runs wide e = rw e (runs_layout_lem wide span rows)
 
-  pub local-bitmap : tag ≡ 6 → local_layout tag span rows ≡ bitmap_layout span rows
+  pub local_bitmap : tag ≡ 6 → local_layout tag span rows ≡ bitmap_layout span rows
   unfolding local_layout by_tag pick
-  local-bitmap e = rw e
+  local_bitmap e = rw e
 
-  pub local-missing : tag ≡ 7 → local_layout tag span rows ≡ missing_layout span rows
+  pub local_missing : tag ≡ 7 → local_layout tag span rows ≡ missing_layout span rows
   unfolding local_layout by_tag pick
-  local-missing e = rw e
+  local_missing e = rw e
 
 -- dense has no bytes, and no other tag has a layout
-pub local-none : (tag span : ℕ) (rows : List ℕ) → (tag ≡ 2 → ⊥) → (tag ≡ 3 → ⊥) → (tag ≡ 4 → ⊥) → (tag ≡ 5 → ⊥) → (tag ≡ 6 → ⊥) → (tag ≡ 7 → ⊥) → local_layout tag span rows ≡ []
+pub local_none : (tag span : ℕ) (rows : List ℕ) → (tag ≡ 2 → ⊥) → (tag ≡ 3 → ⊥) → (tag ≡ 4 → ⊥) → (tag ≡ 5 → ⊥) → (tag ≡ 6 → ⊥) → (tag ≡ 7 → ⊥) → local_layout tag span rows ≡ []
 unfolding local_layout by_tag
-local-none tag span rows a b c d e f =
+local_none tag span rows a b c d e f =
     ⊎_elim (λ t. pick_true _ _ t)
     (λ t.
     pick_false _ _ t ∙ pick_false _ _ (ne_eqb tag 2 a) ∙ pick_false _ _ (ne_eqb tag 3 b) ∙ pick_false _ _ (ne_eqb tag 4 c) ∙ pick_false _ _ (ne_eqb tag 5 d)
@@ -50,15 +50,15 @@ local-none tag span rows a b c d e f =
     (either (eqb tag 1))
 
 -- rows that rise in a span, as every form asks for them, and the bytes of a bitmap
-pub rising-wide : {base span : ℕ} {rows : List ℕ} → span ≤ 4294967295 → Rising base (base + span) rows → Rising base (base + 4294967295) rows
-rising-wide h r = rising_wider (omega arith) (omega arith) r
+pub rising_wide : {base span : ℕ} {rows : List ℕ} → span ≤ 4294967295 → Rising base (base + span) rows → Rising base (base + 4294967295) rows
+rising_wide h r = rising_wider (omega arith) (omega arith) r
 
-pub bitmap-room : (at n base span : ℕ) (rows : List ℕ) {tag : ℕ} → tag ≡ 6 → Rising base (base + span) rows → at + length (local_layout tag span (positions_of base rows)) ≤ n → at + bitmap_length span ≤ n
-bitmap-room at n base span rows e r h = rw (local-bitmap span (positions_of base rows) e, laid_length span (positions_of base rows) (positions_below base span r)) at h
+pub bitmap_room : (at n base span : ℕ) (rows : List ℕ) {tag : ℕ} → tag ≡ 6 → Rising base (base + span) rows → at + length (local_layout tag span (positions_of base rows)) ≤ n → at + bitmap_length span ≤ n
+bitmap_room at n base span rows e r h = rw (local_bitmap span (positions_of base rows) e, laid_length span (positions_of base rows) (positions_below base span r)) at h
 
 -- the same bytes under another name
-pub room-same : (at n : ℕ) {us vs : List ℕ} → us ≡ vs → at + length us ≤ n → at + length vs ≤ n
-room-same at n e h = rw e at h
+pub room_same : (at n : ℕ) {us vs : List ℕ} → us ≡ vs → at + length us ≤ n → at + length vs ≤ n
+room_same at n e h = rw e at h
 
 pub written_same : {us vs xs ys : List ℕ} {at r : ℕ} → us ≡ vs → Written vs at xs ys r → Written us at xs ys r
 written_same e w = rw e w

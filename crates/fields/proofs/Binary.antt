@@ -22,8 +22,8 @@ module _ (xs : List ℕ) (bytes : Bytes xs) where
   pub le_lt : (n at : ℕ) → le n xs at < 2 ^ (8 * n)
   le_lt n at = rw (← pow_bytes n) (le_bound n xs at bytes)
 
-  pub le-high : (n i at : ℕ) → i ≤ n → le n xs at / 2 ^ (8 * i) ≡ le (n - i) xs (at + i)
-  le-high n i at h =
+  pub le_high : (n i at : ℕ) → i ≤ n → le n xs at / 2 ^ (8 * i) ≡ le (n - i) xs (at + i)
+  le_high n i at h =
       let e : n ≡ i + (n - i) = omega arith in
       ap (λ (x : ℕ). le x xs at / 2 ^ (8 * i)) e ∙ rw (le_cat xs i (n - i) at) (high (le (n - i) xs (at + i)) (8 * i) (le_lt i at))
 

@@ -12,9 +12,9 @@ nothing : Gatherer
 nothing = record { entries = 0; rows = 0; first = 0; last = 0 }
 
 -- rows 0 and 65534 as one page are one seed, 0 and 65535 two
-one-seed : page_answer nothing 3 (0 ∷ 65534 ∷ []) ≡ accepted (1 ∷ 2 ∷ 0 ∷ 65534 ∷ [])
+one_seed_lem : page_answer nothing 3 (0 ∷ 65534 ∷ []) ≡ accepted (1 ∷ 2 ∷ 0 ∷ 65534 ∷ [])
 unfolding nothing answered impossible above early late or_else up_at rises one_seed seeded paged some_number page_number page_answer pick both all
-one-seed = refl
+one_seed_lem = refl
 
 one_end : page_table nothing (9 ∷ 9 ∷ 9 ∷ []) (0 ∷ 65534 ∷ []) ≡ 2 ∷ 9 ∷ 9 ∷ []
 unfolding nothing kept impossible above early late or_else up_at rises one_seed seeded paged paged_to some_number page_number page_table pick both all

@@ -15,11 +15,11 @@ use Rattle.model.proofs.Tests.{either, pick_false, both_true, both_left, both_ri
 use Rattle.model.proofs.Answers.{same_number}
 use Rattle.gather_core.specs.declared.Gatherer.{Gatherer}
 use Rattle.gather_core.specs.Gather.{values_of, answered, above, joins, added, added_to, row_number, row_answer, row_table, rises, first_of, one_seed, added_all, added_all_to, paged, some_number, page_answer, page_table, Counted}
-use Rattle.gather_core.proofs.Climbing.{rises-first, rises-rest, rises-more}
+use Rattle.gather_core.proofs.Climbing.{rises_first, rises_rest, rises_more}
 use Rattle.gather.proofs.Answers.{of_values}
 use Rattle.gather_core.proofs.Singly.{entries_grow}
-use Rattle.gather_core.proofs.Pages.{some_answer, some_table, paged-rows, paged_rows_to}
-use Rattle.gather_core.proofs.Admitted.{Able, Passed, passed, passing, fits, fitting, neither, second_decides, answered_yes, kept_new, after, added-joins, added_begins, joins-some, added-length, above_last}
+use Rattle.gather_core.proofs.Pages.{some_answer, some_table, paged_rows, paged_rows_to}
+use Rattle.gather_core.proofs.Admitted.{Able, Passed, passed, passing, fits, fitting, neither, second_decides, answered_yes, kept_new, after, added-joins, added_begins, joins_some, added-length, above_last}
 
 -- rows accepted one by one, from a record and a table to the record and the table at the end
 pub data InTurn : Gatherer → List ℕ → List ℕ → Gatherer → List ℕ → Type 0 where
@@ -44,7 +44,7 @@ module _ (g : Gatherer) (room row : ℕ) where
         some = λ n. f.some a.some;
         ordered = λ n.
             ⊎_elim
-            (λ e. rw (added-joins g row e) (let k = joins-some g row e in omega (arith, a.ordered k, above_last g row up k)))
+            (λ e. rw (added-joins g row e) (let k = joins_some g row e in omega (arith, a.ordered k, above_last g row up k)))
             (λ e. rw (added_begins g row e) (omega arith))
             (either (joins g row));
       }
@@ -62,13 +62,13 @@ module _ (g : Gatherer) (room row : ℕ) where
 abbrev pub climbs : Gatherer → List ℕ → Bool
 climbs g rows = both (above g (first_of rows)) (rises rows)
 
-climbs-rest : (g : Gatherer) (r s : ℕ) (rs : List ℕ) → climbs g (r ∷ s ∷ rs) ≡ true → climbs (added g r) (s ∷ rs) ≡ true
-climbs-rest g r s rs e =
+climbs_rest : (g : Gatherer) (r s : ℕ) (rs : List ℕ) → climbs g (r ∷ s ∷ rs) ≡ true → climbs (added g r) (s ∷ rs) ≡ true
+climbs_rest g r s rs e =
     let a = both_right _ _ e in
-    both_true _ _ (above-added g 0 r s ∙ rises-first r (s ∷ rs) (omega arith) a) (rises-rest r (s ∷ rs) a)
+    both_true _ _ (above-added g 0 r s ∙ rises_first r (s ∷ rs) (omega arith) a) (rises_rest r (s ∷ rs) a)
 
-climbs-more : (g : Gatherer) (r s : ℕ) (rs : List ℕ) → above g r ≡ true → climbs (added g r) (s ∷ rs) ≡ true → climbs g (r ∷ s ∷ rs) ≡ true
-climbs-more g r s rs up e = both_true _ _ up (rises-more r (s ∷ rs) (sym (above-added g 0 r s) ∙ both_left _ _ e) (both_right _ _ e))
+climbs_more : (g : Gatherer) (r s : ℕ) (rs : List ℕ) → above g r ≡ true → climbs (added g r) (s ∷ rs) ≡ true → climbs g (r ∷ s ∷ rs) ≡ true
+climbs_more g r s rs up e = both_true _ _ up (rises_more r (s ∷ rs) (sym (above-added g 0 r s) ∙ both_left _ _ e) (both_right _ _ e))
 
 -- what the tests of a page of rows that are added singly ask
 pub record Taken (g : Gatherer) (t rows : List ℕ) : Type 0 where
@@ -101,19 +101,19 @@ in_turn r (s ∷ rs) g t k =
     let same = added-length t g r in
     one_more g _ t _ r (s ∷ rs) n.0
     (in_turn s rs (added g r) (added_to t g r)
-    (record { able = rw same n.1; up = climbs-rest g r s rs k.up; few = omega (arith, k.few); fit = rw same k.fit }))
+    (record { able = rw same n.1; up = climbs_rest g r s rs k.up; few = omega (arith, k.few); fit = rw same k.fit }))
 
 -- ---- and back
 
-accepted-is : (n : ℕ) (g h : Gatherer) → answered n g ≡ accepted (values_of h) → (n ≡ 0) × (g ≡ h)
+accepted_is : (n : ℕ) (g h : Gatherer) → answered n g ≡ accepted (values_of h) → (n ≡ 0) × (g ≡ h)
 unfolding answered
-accepted-is zero g h e = (refl, ap (λ (a : Answer). of_values a.values) e)
-accepted-is (suc n) g h e = absurd (omega (arith, same_number e))
+accepted_is zero g h e = (refl, ap (λ (a : Answer). of_values a.values) e)
+accepted_is (suc n) g h e = absurd (omega (arith, same_number e))
 
 module _ (g h : Gatherer) (t : List ℕ) (r : ℕ) (e : row_answer g (length t) r ≡ accepted (values_of h)) where
   row_went : (row_number g (length t) r ≡ 0) × (added g r ≡ h)
   unfolding row_answer
-  row_went = accepted-is (row_number g (length t) r) (added g r) h e
+  row_went = accepted_is (row_number g (length t) r) (added g r) h e
 
   row_left : row_table g t r ≡ added_to t g r
   unfolding row_table
@@ -142,7 +142,7 @@ turn_taken r (s ∷ rs) g k t u (next {h = h} e rest) =
     let f = after g r in
     let same = added-length t g r in
     let i : Taken (added g r) (added_to t g r) (s ∷ rs) = rw (q, ← row_left g h t r e) (turn_taken s rs h k (row_table g t r) u rest) in
-    record { able = p.0.able; up = climbs-more g r s rs p.0.rises i.up; few = omega (arith, i.few); fit = rw same at i.fit }
+    record { able = p.0.able; up = climbs_more g r s rs p.0.rises i.up; few = omega (arith, i.few); fit = rw same at i.fit }
 
 -- ---- so a page that is no single seed and its rows by one call each agree
 
@@ -152,26 +152,26 @@ module _ (g : Gatherer) (t : List ℕ) (r : ℕ) (rs : List ℕ) (wide : one_see
   page_taken k =
       let a = k.able in
       second_decides _ _ (passing g (length t) (climbs g (r ∷ rs)) (length (r ∷ rs)) (record { able = a; rises = k.up; counted = record { few = k.few; in_rows = a.in_rows; some = a.some } }))
-      ∙ fitting (paged g (r ∷ rs)) (length t) (rw (paged-rows g (r ∷ rs) wide) k.fit)
+      ∙ fitting (paged g (r ∷ rs)) (length t) (rw (paged_rows g (r ∷ rs) wide) k.fit)
 
   taken_page : some_number g (length t) (r ∷ rs) ≡ 0 → Taken g t (r ∷ rs)
   unfolding some_number
   taken_page e =
       let a = neither _ _ e in
       let p = passed g (length t) (climbs g (r ∷ rs)) (length (r ∷ rs)) a.0 in
-      record { able = p.able; up = p.rises; few = p.counted.few; fit = rw (paged-rows g (r ∷ rs) wide) at (fits (paged g (r ∷ rs)) (length t) a.1) }
+      record { able = p.able; up = p.rises; few = p.counted.few; fit = rw (paged_rows g (r ∷ rs) wide) at (fits (paged g (r ∷ rs)) (length t) a.1) }
 
   some : length (r ∷ rs) ≡ 0 → ⊥
   some z = omega arith
 
   pub page_in_turn : (h : Gatherer) → page_answer g (length t) (r ∷ rs) ≡ accepted (values_of h) → InTurn g t (r ∷ rs) h (page_table g t (r ∷ rs))
   page_in_turn h e =
-      let a = accepted-is _ _ h (sym (some_answer g (r ∷ rs) some (length t)) ∙ e) in
+      let a = accepted_is _ _ h (sym (some_answer g (r ∷ rs) some (length t)) ∙ e) in
       let to : page_table g t (r ∷ rs) ≡ added_all_to t g (r ∷ rs) = some_table g (r ∷ rs) some t ∙ kept_new _ _ _ a.0 ∙ paged_rows_to g (r ∷ rs) t wide in
-      rw (to, ← a.1, paged-rows g (r ∷ rs) wide) (in_turn r rs g t (taken_page a.0))
+      rw (to, ← a.1, paged_rows g (r ∷ rs) wide) (in_turn r rs g t (taken_page a.0))
 
   pub turn_in_page : (h : Gatherer) (u : List ℕ) → InTurn g t (r ∷ rs) h u → (page_answer g (length t) (r ∷ rs) ≡ accepted (values_of h)) × (page_table g t (r ∷ rs) ≡ u)
   turn_in_page h u i =
       let n = page_taken (turn_taken r rs g h t u i) in
       let q = turn_ends i in
-      (some_answer g (r ∷ rs) some (length t) ∙ answered_yes _ _ n ∙ rw (paged-rows g (r ∷ rs) wide, q.0), some_table g (r ∷ rs) some t ∙ kept_new _ _ _ n ∙ paged_rows_to g (r ∷ rs) t wide ∙ sym q.1)
+      (some_answer g (r ∷ rs) some (length t) ∙ answered_yes _ _ n ∙ rw (paged_rows g (r ∷ rs) wide, q.0), some_table g (r ∷ rs) some t ∙ kept_new _ _ _ n ∙ paged_rows_to g (r ∷ rs) t wide ∙ sym q.1)

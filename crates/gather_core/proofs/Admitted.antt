@@ -130,13 +130,13 @@ pub record After (g : Gatherer) (row : ℕ) : Type 0 where
   pub some : ((g.rows ≡ 0 → ⊥) → 1 ≤ g.entries) → 1 ≤ (added g row).entries
 
 -- a row that joins has a row before it
-pub joins-some : (g : Gatherer) (row : ℕ) → joins g row ≡ true → g.rows ≡ 0 → ⊥
+pub joins_some : (g : Gatherer) (row : ℕ) → joins g row ≡ true → g.rows ≡ 0 → ⊥
 unfolding joins
-joins-some g row e z = never e (pick_true _ _ (eq-eqb _ _ z))
+joins_some g row e z = never e (pick_true _ _ (eq-eqb _ _ z))
 
 pub joins_window : (g : Gatherer) (row : ℕ) → joins g row ≡ true → row / 4096 ≡ g.first / 4096
 unfolding joins
-joins_window g row e = eqb-true _ _ (sym (pick_false _ _ (ne_eqb g.rows 0 (joins-some g row e))) ∙ e)
+joins_window g row e = eqb-true _ _ (sym (pick_false _ _ (ne_eqb g.rows 0 (joins_some g row e))) ∙ e)
 
 abbrev pub joined : Gatherer → ℕ → Gatherer
 joined g row = record { entries = g.entries; rows = g.rows + 1; first = g.first; last = row }
@@ -159,7 +159,7 @@ after_of g row x e a b d f h = record { total = rw e a; newest = rw e b; low = r
 pub after : (g : Gatherer) (row : ℕ) → After g row
 after g row =
     ⊎_elim
-    (λ e. after_of g row (joined g row) (added-joins g row e) refl refl (omega arith) (omega arith) (λ k. k (joins-some g row e)))
+    (λ e. after_of g row (joined g row) (added-joins g row e) refl refl (omega arith) (omega arith) (λ k. k (joins_some g row e)))
     (λ e. after_of g row (begun g row) (added_begins g row e) refl refl (omega arith) (omega arith) (λ k. omega arith))
     (either (joins g row))
 
@@ -167,8 +167,8 @@ pub added-length : (t : List ℕ) (g : Gatherer) (row : ℕ) → length (added_t
 unfolding added_to
 added-length t g row = simp length-set
 
-pub after-counted : (g : Gatherer) (row n : ℕ) → Counted g (suc n) → Counted (added g row) n
-after-counted g row n k =
+pub after_counted : (g : Gatherer) (row n : ℕ) → Counted g (suc n) → Counted (added g row) n
+after_counted g row n k =
     let a = after g row in
     record { few = omega arith; in_rows = omega arith; some = λ z. a.some k.some }
 
@@ -203,26 +203,26 @@ module _ (g : Gatherer) (room row : ℕ) where
     pub followed : Passed g room (above g row) 1
     followed = passed g room (above g row) 1 f.number
 
-    some-rows : g.rows ≡ 0 → ⊥
-    some-rows z = omega (arith, followed.able.in_rows, f.some)
+    some_rows : g.rows ≡ 0 → ⊥
+    some_rows z = omega (arith, followed.able.in_rows, f.some)
 
     pub followed_order : g.first ≤ g.last
-    followed_order = followed.able.ordered some-rows
+    followed_order = followed.able.ordered some_rows
 
     pub followed_above : g.last < row
-    followed_above = above_last g row followed.rises some-rows
+    followed_above = above_last g row followed.rises some_rows
 
     pub goes_on_lem : g.first / 4096 ≡ row / 4096 → Goes true g room row
     unfolding row_number joins
     goes_on_lem w =
         let a = followed.able in
-        let j : joins g row ≡ true = pick_false _ _ (ne_eqb g.rows 0 some-rows) ∙ eq-eqb _ _ (sym w) in
+        let j : joins g row ≡ true = pick_false _ _ (ne_eqb g.rows 0 some_rows) ∙ eq-eqb _ _ (sym w) in
         record { in_seed = j; number = second_decides _ _ f.number ∙ fitting (added g row) room (rw (added-joins g row j) a.in_room) }
 
     -- in another window a row begins a seed
     pub elsewhere : (row / 4096 ≡ g.first / 4096 → ⊥) → Begins
     unfolding joins
-    elsewhere w = (f.number, pick_false _ _ (ne_eqb g.rows 0 some-rows) ∙ ne_eqb _ _ w)
+    elsewhere w = (f.number, pick_false _ _ (ne_eqb g.rows 0 some_rows) ∙ ne_eqb _ _ w)
 
   -- and so does the first one
   pub first_row : g.rows ≡ 0 → g.entries ≡ 0 → Begins
@@ -258,7 +258,7 @@ module _ (g : Gatherer) (room row : ℕ) where
   pub goes_on-fits : Goes true g room row → (1 ≤ g.entries) × (g.entries ≤ room) × (g.rows + 1 ≤ 65535)
   goes_on-fits o =
       let a = row_admitted g room row o.number in
-      (a.0.some (joins-some g row o.in_seed), rw (added-joins g row o.in_seed) at a.1, a.0.few)
+      (a.0.some (joins_some g row o.in_seed), rw (added-joins g row o.in_seed) at a.1, a.0.few)
 
   -- and of one that begins a seed
   pub begins_fits : Goes false g room row → (g.entries + 1 ≤ room) × (g.rows + 1 ≤ 65535)

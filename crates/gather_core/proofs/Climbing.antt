@@ -2,12 +2,12 @@
 -- Assumes nothing.
 use Rattle.std.proofs.Common.{◌≡◌, ℕ, zero, suc, ◌+◌, ◌-◌, ◌<◌, ◌≤◌, true, ltb, List, ◌∷◌, length, get_or, sym, ◌∙◌, suc-add, add-one, arith, ltb-true}
 use Rattle.model.specs.Tests.{all}
-use Rattle.model.proofs.Tests.{all-at, all_from}
+use Rattle.model.proofs.Tests.{all_at, all_from}
 use Rattle.gather_core.specs.Gather.{up_at, rises, first_of, last_of}
 
-pub rises-none : (rows : List ℕ) → length rows ≡ 0 → rises rows ≡ true
+pub rises_none : (rows : List ℕ) → length rows ≡ 0 → rises rows ≡ true
 unfolding rises all
-rises-none rows e = rw e
+rises_none rows e = rw e
 
 -- ---- a row in front of others
 
@@ -18,30 +18,30 @@ module _ (x : ℕ) (rows : List ℕ) where
 
   each : rises (x ∷ rows) ≡ true → (i : ℕ) → i < length rows → up_at (x ∷ rows) i ≡ true
   unfolding rises
-  each e i h = all-at (up_at (x ∷ rows)) (length (x ∷ rows) - 1) e i (omega arith)
+  each e i h = all_at (up_at (x ∷ rows)) (length (x ∷ rows) - 1) e i (omega arith)
 
-  pub rises-first : 0 < length rows → rises (x ∷ rows) ≡ true → ltb x (first_of rows) ≡ true
+  pub rises_first : 0 < length rows → rises (x ∷ rows) ≡ true → ltb x (first_of rows) ≡ true
   unfolding up_at
-  rises-first some e = each e 0 some
+  rises_first some e = each e 0 some
 
-  pub rises-rest : rises (x ∷ rows) ≡ true → rises rows ≡ true
+  pub rises_rest : rises (x ∷ rows) ≡ true → rises rows ≡ true
   unfolding rises
-  rises-rest e = all_from (up_at rows) (length rows - 1) (λ i h. sym (up_rest i) ∙ each e (suc i) (omega arith))
+  rises_rest e = all_from (up_at rows) (length rows - 1) (λ i h. sym (up_rest i) ∙ each e (suc i) (omega arith))
 
-  pub rises-more : ltb x (first_of rows) ≡ true → rises rows ≡ true → rises (x ∷ rows) ≡ true
+  pub rises_more : ltb x (first_of rows) ≡ true → rises rows ≡ true → rises (x ∷ rows) ≡ true
   unfolding rises up_at
-  rises-more l e = all_from (up_at (x ∷ rows)) (length (x ∷ rows) - 1) at
+  rises_more l e = all_from (up_at (x ∷ rows)) (length (x ∷ rows) - 1) at
     where
       at : (i : ℕ) → i < length (x ∷ rows) - 1 → up_at (x ∷ rows) i ≡ true
       at zero h = l
-      at (suc i) h = up_rest i ∙ all-at (up_at rows) (length rows - 1) e i (omega arith)
+      at (suc i) h = up_rest i ∙ all_at (up_at rows) (length rows - 1) e i (omega arith)
 
 -- ---- the two ends
 
-pub rises-ends : (rows : List ℕ) → rises rows ≡ true → first_of rows ≤ last_of rows
+pub rises_ends : (rows : List ℕ) → rises rows ≡ true → first_of rows ≤ last_of rows
 unfolding rises up_at
-rises-ends rows e = upto (length rows - 1) (omega arith)
+rises_ends rows e = upto (length rows - 1) (omega arith)
   where
     upto : (i : ℕ) → i ≤ length rows - 1 → first_of rows ≤ get_or rows i 0
     upto zero h = omega arith
-    upto (suc i) h = omega (arith, upto i (omega arith), rw (add-one i) at (ltb-true (get_or rows i 0) (get_or rows (i + 1) 0) (all-at (up_at rows) (length rows - 1) e i (omega arith))))
+    upto (suc i) h = omega (arith, upto i (omega arith), rw (add-one i) at (ltb-true (get_or rows i 0) (get_or rows (i + 1) 0) (all_at (up_at rows) (length rows - 1) e i (omega arith))))

@@ -4,9 +4,9 @@ use Rattle.std.proofs.Common.{◌≡◌, ℕ, ◌+◌, ◌-◌, ◌<◌, ◌≤�
 use Rattle.gather_core.specs.declared.Gatherer.{Gatherer}
 use Rattle.gather_core.specs.Gather.{added, added_to, row_number, row_table, one_seed, added_all, added_all_to, seeded, paged, paged_to, some_number, page_table, Counted}
 use Rattle.model.proofs.Tests.{either, same_or_not}
-use Rattle.gather_core.proofs.Admitted.{after, after-counted, row_admitted, kept_new, kept_old}
+use Rattle.gather_core.proofs.Admitted.{after, after_counted, row_admitted, kept_new, kept_old}
 use Rattle.gather_core.proofs.Singly.{entries_grow}
-use Rattle.gather_core.proofs.Pages.{empty_table, some_table, paged-one, paged-rows, paged_one_to, paged_rows_to, page_admitted}
+use Rattle.gather_core.proofs.Pages.{empty_table, some_table, paged-one, paged_rows, paged_one_to, paged_rows_to, page_admitted}
 
 -- an entry that is not the last one in use, nor a new one
 abbrev pub Elsewhere : Gatherer → Gatherer → ℕ → Type 0
@@ -33,7 +33,7 @@ all_elsewhere [] g t i c e = refl
 all_elsewhere (r ∷ rs) g t i c e =
     let a = after g r in
     let grow = entries_grow rs (added g r) in
-    all_elsewhere rs (added g r) (added_to t g r) i (after-counted g r (length rs) c) (⊎_elim (λ l. inl (omega arith)) (λ m. inr m) e)
+    all_elsewhere rs (added g r) (added_to t g r) i (after_counted g r (length rs) c) (⊎_elim (λ l. inl (omega arith)) (λ m. inr m) e)
     ∙ put_elsewhere g t r i (record { few = omega (arith, c.few); in_rows = c.in_rows; some = c.some }) (⊎_elim (λ l. inl l) (λ m. inr (omega arith)) e)
 
 paged_elsewhere : (g : Gatherer) (t rows : List ℕ) (i : ℕ) → Counted g (length rows) → Elsewhere g (paged g rows) i → get_or (paged_to t g rows) i 0 ≡ get_or t i 0
@@ -43,7 +43,7 @@ paged_elsewhere g t rows i c e =
     (λ o.
     let f : Elsewhere g (seeded g rows) i = rw (paged-one g rows o) at e in
     rw (paged_one_to g rows t o) (get_or-set_other t g.entries i (g.rows + length rows) 0 (⊎_elim (λ l q. omega arith) (λ m q. omega arith) f)))
-    (λ o. rw (paged_rows_to g rows t o) (all_elsewhere rows g t i c (rw (paged-rows g rows o) at e)))
+    (λ o. rw (paged_rows_to g rows t o) (all_elsewhere rows g t i c (rw (paged_rows g rows o) at e)))
     (either (one_seed rows))
 
 pub page_elsewhere : (g : Gatherer) (t rows : List ℕ) (i : ℕ) → Elsewhere g (paged g rows) i → get_or (page_table g t rows) i 0 ≡ get_or t i 0

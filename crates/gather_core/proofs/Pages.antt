@@ -6,7 +6,7 @@ use Rattle.model.proofs.Tests.{either, pick_true, pick_false, both_true, both_ri
 use Rattle.gather_core.specs.declared.Gatherer.{Gatherer}
 use Rattle.gather_core.specs.Gather.{answered, kept, impossible, rises, first_of, one_seed, added_all, added_all_to, seeded, paged, paged_to, some_number, page_number, page_answer, page_table, Counted, Paging, GoesIn}
 use Rattle.gather_core.proofs.Admitted.{Able, neither, passed, passing, fits, fitting, second_decides, last_above}
-use Rattle.gather_core.proofs.Climbing.{rises-first, rises-rest}
+use Rattle.gather_core.proofs.Climbing.{rises_first, rises_rest}
 use Rattle.gather_core.proofs.Singly.{entries_few}
 
 kept_same : (k : ℕ) (t : List ℕ) → kept k t t ≡ t
@@ -50,9 +50,9 @@ module _ (g : Gatherer) (rows : List ℕ) where
   unfolding paged
   paged-one e = pick_true _ _ e
 
-  pub paged-rows : one_seed rows ≡ false → paged g rows ≡ added_all g rows
+  pub paged_rows : one_seed rows ≡ false → paged g rows ≡ added_all g rows
   unfolding paged
-  paged-rows e = pick_false _ _ e
+  paged_rows e = pick_false _ _ e
 
   pub paged_one_to : (t : List ℕ) → one_seed rows ≡ true → paged_to t g rows ≡ set t g.entries (g.rows + length rows)
   unfolding paged_to
@@ -63,15 +63,15 @@ module _ (g : Gatherer) (rows : List ℕ) where
   paged_rows_to t e = pick_false _ _ e
 
   -- a page makes no more seeds than it has rows
-  pub paged-few : 0 < length rows → (paged g rows).entries ≤ g.entries + length rows
+  pub paged_few : 0 < length rows → (paged g rows).entries ≤ g.entries + length rows
   unfolding seeded
-  paged-few some = ⊎_elim (λ e. rw (paged-one e) (omega arith)) (λ e. rw (paged-rows e) (entries_few rows g)) (either (one_seed rows))
+  paged_few some = ⊎_elim (λ e. rw (paged-one e) (omega arith)) (λ e. rw (paged_rows e) (entries_few rows g)) (either (one_seed rows))
 
   -- a page that goes in behind others, where each of its rows has room
   pub goes_in : (room : ℕ) → 0 < length rows → Able g room → 1 ≤ g.entries → length rows ≤ room - g.entries → g.rows + length rows ≤ 65535 → rises (g.last ∷ rows) ≡ true → GoesIn g room rows
   unfolding some_number
   goes_in room any a some free few r =
-      let up = last_above g (first_of rows) (λ z. omega (arith, a.in_rows)) (ltb-true _ _ (rises-first g.last rows any r)) in
+      let up = last_above g (first_of rows) (λ z. omega (arith, a.in_rows)) (ltb-true _ _ (rises_first g.last rows any r)) in
       let k : Counted g (length rows) = record { few = few; in_rows = a.in_rows; some = a.some } in
-      let p = passing g room _ (length rows) (record { able = a; rises = both_true _ _ up (rises-rest g.last rows r); counted = k }) in
-      record { any = any; number = second_decides _ _ p ∙ fitting (paged g rows) room (omega (arith, paged-few any, a.in_room)) }
+      let p = passing g room _ (length rows) (record { able = a; rises = both_true _ _ up (rises_rest g.last rows r); counted = k }) in
+      record { any = any; number = second_decides _ _ p ∙ fitting (paged g rows) room (omega (arith, paged_few any, a.in_room)) }

@@ -7,9 +7,9 @@ use Rattle.model.proofs.Tests.{either, both_true, all_from, last_or_before}
 use Rattle.gather_core.specs.declared.Gatherer.{Gatherer}
 use Rattle.gather_core.specs.Gather.{joins, added, added_to, row_number, first_of, last_of, one_seed, added_all, added_all_to, seeded, paged, paged_to, Counted, Paging}
 use Rattle.gather_core.specs.Seeds.{start_of, seed_at, seeds_fit}
-use Rattle.gather_core.proofs.Admitted.{joined, begun, added-joins, added_begins, joins-some, joins_window, row_admitted, after-counted, added-length}
+use Rattle.gather_core.proofs.Admitted.{joined, begun, added-joins, added_begins, joins_some, joins_window, row_admitted, after_counted, added-length}
 use Rattle.gather_core.proofs.Singly.{entries_grow}
-use Rattle.gather_core.proofs.Pages.{paged-one, paged-rows, paged_one_to, paged_rows_to}
+use Rattle.gather_core.proofs.Pages.{paged-one, paged_rows, paged_one_to, paged_rows_to}
 
 -- ---- one seed
 
@@ -19,8 +19,8 @@ pub record Seed (rows ends : List ℕ) (i : ℕ) : Type 0 where
   pub near : get_or rows (get_or ends i 0 - 1) 0 - get_or rows (start_of ends i) 0 ≤ 65534
 
 -- more rows after it change nothing
-seed-more : (rows more ends : List ℕ) (i : ℕ) → Seed rows ends i → Seed (rows ++ more) ends i
-seed-more rows more ends i s =
+seed_more : (rows more ends : List ℕ) (i : ℕ) → Seed rows ends i → Seed (rows ++ more) ends i
+seed_more rows more ends i s =
     let l = s.inside in
     let a = s.some in
     record {
@@ -30,15 +30,15 @@ seed-more rows more ends i s =
     }
 
 -- nor does an end stored after its own
-start-kept : (ends : List ℕ) (k v i : ℕ) → i ≤ k → start_of (set ends k v) i ≡ start_of ends i
+start_kept : (ends : List ℕ) (k v i : ℕ) → i ≤ k → start_of (set ends k v) i ≡ start_of ends i
 unfolding start_of
-start-kept ends k v zero h = refl
-start-kept ends k v (suc i) h = get_or-set_other ends k i v 0 (omega arith)
+start_kept ends k v zero h = refl
+start_kept ends k v (suc i) h = get_or-set_other ends k i v 0 (omega arith)
 
-seed-kept : (rows ends : List ℕ) (k v i : ℕ) → i < k → Seed rows ends i → Seed rows (set ends k v) i
-seed-kept rows ends k v i h s =
+seed_kept : (rows ends : List ℕ) (k v i : ℕ) → i < k → Seed rows ends i → Seed rows (set ends k v) i
+seed_kept rows ends k v i h s =
     let e = get_or-set_other ends k i v 0 (omega arith) in
-    let f = start-kept ends k v i (omega arith) in
+    let f = start_kept ends k v i (omega arith) in
     record { some = rw (e, f) s.some; inside = rw e s.inside; near = rw (e, f) s.near }
 
 -- ---- a record and a table that hold the seeds of rows
@@ -54,12 +54,12 @@ pub gathers_none : (g : Gatherer) (ends : List ℕ) → g.entries ≡ 0 → g.ro
 unfolding start_of
 gathers_none g ends e z = record { total = z; in_table = rw e (omega arith); started = rw e; seeds = λ i h. absurd (omega arith); first = λ h. absurd (omega arith) }
 
-start-next : (ends : List ℕ) (i : ℕ) → start_of ends (i + 1) ≡ get_or ends i 0
+start_next : (ends : List ℕ) (i : ℕ) → start_of ends (i + 1) ≡ get_or ends i 0
 unfolding start_of
-start-next ends i = rw add-one
+start_next ends i = rw add-one
 
 start_last : (ends : List ℕ) (e : ℕ) → 1 ≤ e → start_of ends e ≡ get_or ends (e - 1) 0
-start_last ends e h = let q : e ≡ (e - 1) + 1 = omega arith in ap (start_of ends) q ∙ start-next ends (e - 1)
+start_last ends e h = let q : e ≡ (e - 1) + 1 = omega arith in ap (start_of ends) q ∙ start_next ends (e - 1)
 
 -- ---- a new seed of rows that are near each other
 
@@ -71,7 +71,7 @@ module _ (g h : Gatherer) (t xs ys : List ℕ) (k : Gathers g t xs) (some : 1 �
   end_new = get_or-set_same t g.entries (g.rows + length ys) 0 room ∙ ap (λ (n : ℕ). n + length ys) k.total
 
   start_new : start_of grown g.entries ≡ length xs
-  start_new = start-kept t g.entries (g.rows + length ys) g.entries (omega arith) ∙ k.started
+  start_new = start_kept t g.entries (g.rows + length ys) g.entries (omega arith) ∙ k.started
 
   seed_new : last_of ys - first_of ys ≤ 65534 → Seed (xs ++ ys) grown g.entries
   seed_new near =
@@ -90,11 +90,11 @@ module _ (g h : Gatherer) (t xs ys : List ℕ) (k : Gathers g t xs) (some : 1 �
       record {
         total = rw length-append (hr ∙ ap (λ (n : ℕ). n + length ys) k.total);
         in_table = rw (length-set, he) (omega arith);
-        started = rw (he, start-next, end_new, length-append);
+        started = rw (he, start_next, end_new, length-append);
         seeds = λ i l.
             ⊎_elim
             (λ q. rw q (seed_new near))
-            (λ m. seed-more xs ys grown i (seed-kept xs t g.entries (g.rows + length ys) i m (k.seeds i m)))
+            (λ m. seed_more xs ys grown i (seed_kept xs t g.entries (g.rows + length ys) i m (k.seeds i m)))
             (last_or_before (rw (he, add-one) at l));
         first = λ o. rw (last, start_new, z, get_or-append-add xs ys 0 0) hf;
       }
@@ -111,21 +111,21 @@ module _ (g h : Gatherer) (t xs : List ℕ) (row : ℕ) (k : Gathers g t xs) (so
   end_moved : get_or stretched (g.entries - 1) 0 ≡ length xs + 1
   end_moved = get_or-set_same t (g.entries - 1) (g.rows + 1) 0 inside_table ∙ ap (λ (n : ℕ). n + 1) k.total
 
-  start-same : start_of stretched (g.entries - 1) ≡ start_of t (g.entries - 1)
-  start-same = start-kept t (g.entries - 1) (g.rows + 1) (g.entries - 1) (omega arith)
+  start_same : start_of stretched (g.entries - 1) ≡ start_of t (g.entries - 1)
+  start_same = start_kept t (g.entries - 1) (g.rows + 1) (g.entries - 1) (omega arith)
 
-  start-before : start_of t (g.entries - 1) < length xs
-  start-before =
+  start_before : start_of t (g.entries - 1) < length xs
+  start_before =
       let s = (k.seeds (g.entries - 1) (omega arith)).some in
       rw (sym (start_last t g.entries some) ∙ k.started) at s
 
-  seed-moved : row - g.first ≤ 65534 → Seed (xs ++ row ∷ []) stretched (g.entries - 1)
-  seed-moved near =
+  seed_moved : row - g.first ≤ 65534 → Seed (xs ++ row ∷ []) stretched (g.entries - 1)
+  seed_moved near =
       let e : length xs + 1 - 1 ≡ length xs + 0 = omega arith in
       record {
-        some = rw (end_moved, start-same) (omega (arith, start-before));
+        some = rw (end_moved, start_same) (omega (arith, start_before));
         inside = rw (end_moved, length-append) (omega arith);
-        near = rw (end_moved, start-same, e, get_or-append-add xs (row ∷ []) 0 0, get_or-append xs (row ∷ []) 0 (start_of t (g.entries - 1)) start-before, ← k.first some) near;
+        near = rw (end_moved, start_same, e, get_or-append-add xs (row ∷ []) 0 0, get_or-append xs (row ∷ []) 0 (start_of t (g.entries - 1)) start_before, ← k.first some) near;
       }
 
   pub stretches : row - g.first ≤ 65534 → h.entries ≡ g.entries → h.rows ≡ g.rows + 1 → h.first ≡ g.first → Gathers h stretched (xs ++ row ∷ [])
@@ -135,10 +135,10 @@ module _ (g h : Gatherer) (t xs : List ℕ) (row : ℕ) (k : Gathers g t xs) (so
     started = rw (he, start_last stretched g.entries some, end_moved, length-append);
     seeds = λ i l.
         ⊎_elim
-        (λ q. rw q (seed-moved near))
-        (λ m. seed-more xs (row ∷ []) stretched i (seed-kept xs t (g.entries - 1) (g.rows + 1) i m (k.seeds i (omega arith))))
+        (λ q. rw q (seed_moved near))
+        (λ m. seed_more xs (row ∷ []) stretched i (seed_kept xs t (g.entries - 1) (g.rows + 1) i m (k.seeds i (omega arith))))
         (eq-or-lt_of_le (at_most i l));
-    first = λ o. rw (he, start-same, get_or-append xs (row ∷ []) 0 (start_of t (g.entries - 1)) start-before) (hf ∙ k.first some);
+    first = λ o. rw (he, start_same, get_or-append xs (row ∷ []) 0 (start_of t (g.entries - 1)) start_before) (hf ∙ k.first some);
   }
     where
       at_most : (i : ℕ) → i < h.entries → i ≤ g.entries - 1
@@ -155,7 +155,7 @@ module _ (g : Gatherer) (t xs : List ℕ) (k : Gathers g t xs) where
   put_keeps row some room =
       ⊎_elim
       (λ e.
-      let s = some (joins-some g row e) in
+      let s = some (joins_some g row e) in
       rw (added-joins g row e) (stretches g (joined g row) t xs row k s (window_near row g.first (joins_window g row e)) refl refl refl))
       (λ e.
       let q = added_begins g row e in
@@ -183,7 +183,7 @@ all_keeps (r ∷ rs) g t xs k c room =
     let grow : (added g r).entries ≤ (added_all (added g r) rs).entries = entries_grow rs (added g r) in
     let same : length (added_to t g r) ≡ length t = added-length t g r in
     let next = put_keeps g t xs k r c.some (omega arith) in
-    rw (← append_snoc xs r rs) (all_keeps rs (added g r) (added_to t g r) (xs ++ r ∷ []) next (after-counted g r (length rs) c) (omega arith))
+    rw (← append_snoc xs r rs) (all_keeps rs (added g r) (added_to t g r) (xs ++ r ∷ []) next (after_counted g r (length rs) c) (omega arith))
 
 -- a page
 pub page_keeps : (g : Gatherer) (t xs rows : List ℕ) → Gathers g t xs → Paging g (length t) rows → Gathers (paged g rows) (paged_to t g rows) (xs ++ rows)
@@ -195,26 +195,26 @@ page_keeps g t xs rows k p =
     let l : g.entries + 1 ≤ length t = rw q at p.in_room in
     rw (q, paged_one_to g rows t e) (seed_keeps g t xs k rows p.any e (omega arith)))
     (λ e.
-    let q = paged-rows g rows e in
+    let q = paged_rows g rows e in
     rw (q, paged_rows_to g rows t e) (all_keeps rows g t xs k p.counted (rw q at p.in_room)))
     (either (one_seed rows))
 
 -- ---- and so planning's test 4 passes for the entries in use and the rows that were gathered
 
-start-take : (t : List ℕ) (e i : ℕ) → i ≤ e → start_of (take e t) i ≡ start_of t i
+start_take : (t : List ℕ) (e i : ℕ) → i ≤ e → start_of (take e t) i ≡ start_of t i
 unfolding start_of
-start-take t e zero h = refl
-start-take t e (suc i) h = get_or-take e t i 0 h
+start_take t e zero h = refl
+start_take t e (suc i) h = get_or-take e t i 0 h
 
 last_end : (ends : List ℕ) → get_or ends (length ends - 1) 0 ≡ start_of ends (length ends)
 unfolding start_of
 last_end [] = refl
 last_end (x ∷ xs) = sym (start_last (x ∷ xs) (length (x ∷ xs)) (omega arith))
 
-seed-fits : (rows t : List ℕ) (e i : ℕ) → i < e → Seed rows t i → seed_at rows (take e t) i ≡ true
+seed_fits : (rows t : List ℕ) (e i : ℕ) → i < e → Seed rows t i → seed_at rows (take e t) i ≡ true
 unfolding seed_at
-seed-fits rows t e i h s =
-    rw (get_or-take e t i 0 h, start-take t e i (omega arith)) (both_true _ _ (lt-ltb _ _ s.some) (le-leb _ _ s.near))
+seed_fits rows t e i h s =
+    rw (get_or-take e t i 0 h, start_take t e i (omega arith)) (both_true _ _ (lt-ltb _ _ s.some) (le-leb _ _ s.near))
 
 pub gathers_fit : (g : Gatherer) (t xs : List ℕ) → Gathers g t xs → seeds_fit xs (take g.entries t) ≡ true
 unfolding seeds_fit
@@ -222,5 +222,5 @@ gathers_fit g t xs k =
     let n : length (take g.entries t) ≡ g.entries = length-take-le g.entries t k.in_table in
     let e = g.entries in
     both_true _ _
-    (rw n (all_from (seed_at xs (take e t)) e (λ i l. seed-fits xs t e i l (k.seeds i l))))
-    (eq-eqb _ _ (last_end (take e t) ∙ rw (n, start-take t e e (omega arith)) k.started))
+    (rw n (all_from (seed_at xs (take e t)) e (λ i l. seed_fits xs t e i l (k.seeds i l))))
+    (eq-eqb _ _ (last_end (take e t) ∙ rw (n, start_take t e e (omega arith)) k.started))

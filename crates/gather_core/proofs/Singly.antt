@@ -2,21 +2,21 @@
 -- Assumes nothing.
 use Rattle.std.proofs.Common.{◌≡◌, ℕ, suc, ◌+◌, ◌-◌, ◌<◌, ◌≤◌, List, [], ◌∷◌, length, get_or, drop, sym, refl, ◌∙◌, arith, length-set, drop_of_length-le}
 use native.Mathlib.Nat.{sub-zero}
-use Rattle.model.proofs.Taking.{drop-step}
+use Rattle.model.proofs.Taking.{drop_step}
 use Rattle.gather_core.specs.declared.Gatherer.{Gatherer}
 use Rattle.gather_core.specs.Gather.{added, added_to, added_all, added_all_to, Counted}
-use Rattle.gather_core.proofs.Admitted.{after, after-counted}
+use Rattle.gather_core.proofs.Admitted.{after, after_counted}
 
 -- ---- one row more, and the end
 
 module _ (rows : List ℕ) (i : ℕ) (h : i < length rows) where
-  pub all-step : (g : Gatherer) → added_all g (drop i rows) ≡ added_all (added g (get_or rows i 0)) (drop (i + 1) rows)
+  pub all_step : (g : Gatherer) → added_all g (drop i rows) ≡ added_all (added g (get_or rows i 0)) (drop (i + 1) rows)
   unfolding added_all
-  all-step g = rw (drop-step rows i 0 h)
+  all_step g = rw (drop_step rows i 0 h)
 
   pub all_to_step : (t : List ℕ) (g : Gatherer) → added_all_to t g (drop i rows) ≡ added_all_to (added_to t g (get_or rows i 0)) (added g (get_or rows i 0)) (drop (i + 1) rows)
   unfolding added_all_to
-  all_to_step t g = rw (drop-step rows i 0 h)
+  all_to_step t g = rw (drop_step rows i 0 h)
 
 module _ (rows : List ℕ) (i : ℕ) (h : length rows ≤ i) where
   pub all_end : (g : Gatherer) → added_all g (drop i rows) ≡ g
@@ -58,13 +58,13 @@ module _ (rows : List ℕ) (g : Gatherer) where
         let e : length rows - i ≡ suc (length rows - (i + 1)) = omega arith in
         record {
           within = omega arith;
-          counted = after-counted h (get_or rows i 0) (length rows - (i + 1)) (rw e at k.counted);
-          whole = k.whole ∙ all-step rows i l h;
+          counted = after_counted h (get_or rows i 0) (length rows - (i + 1)) (rw e at k.counted);
+          whole = k.whole ∙ all_step rows i l h;
         }
 
     -- the entries so far are no more than at the end
     pub going_room : i < length rows → (added h (get_or rows i 0)).entries ≤ (added_all g rows).entries
-    going_room l = rw (k.whole ∙ all-step rows i l h) (entries_grow (drop (i + 1) rows) (added h (get_or rows i 0)))
+    going_room l = rw (k.whole ∙ all_step rows i l h) (entries_grow (drop (i + 1) rows) (added h (get_or rows i 0)))
 
     pub going_end : length rows ≤ i → h ≡ added_all g rows
     going_end m = sym (k.whole ∙ all_end rows i m h)

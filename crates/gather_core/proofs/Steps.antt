@@ -45,23 +45,23 @@ module _ (least : ℕ) (near : 2 ^ 64 - 2 ^ 48 ≤ least) (rows : List ℕ) wher
       (λ g. inr (⊎_elim (λ u. omega arith) (λ d. omega arith) t))
       (gone n (record { step = λ i h. s.step i (omega arith) }))
 
-  pub rises-so : length rows ≤ 65536 → Stepped least rows (length rows - 1) → first_of rows ≤ last_of rows → rises rows ≡ true
+  pub rises_so : length rows ≤ 65536 → Stepped least rows (length rows - 1) → first_of rows ≤ last_of rows → rises rows ≡ true
   unfolding rises
-  rises-so few s up = ⊎_elim (λ g. g.0) (λ g. absurd (omega arith)) (gone (length rows - 1) s)
+  rises_so few s up = ⊎_elim (λ g. g.0) (λ g. absurd (omega arith)) (gone (length rows - 1) s)
 
 -- ---- behind a number, the rows from an index on
 
 module _ (x : ℕ) (rows : List ℕ) where
-  pub behind-at : (from i : ℕ) → from ≤ i → get_or (x ∷ drop from rows) (i - from + 1) 0 ≡ get_or rows i 0
-  behind-at from i h =
+  pub behind_at : (from i : ℕ) → from ≤ i → get_or (x ∷ drop from rows) (i - from + 1) 0 ≡ get_or rows i 0
+  behind_at from i h =
       let e : from + (i - from) ≡ i = omega arith in
       rw (add-one (i - from), get_or-drop from rows (i - from) 0, e)
 
-  pub behind-length : (from : ℕ) → length (x ∷ drop from rows) - 1 ≡ length rows - from
-  behind-length from = omega (arith, length-drop from rows)
+  pub behind_length : (from : ℕ) → length (x ∷ drop from rows) - 1 ≡ length rows - from
+  behind_length from = omega (arith, length-drop from rows)
 
   pub behind_last : (from : ℕ) → from ≤ length rows → x ≤ last_of rows → x ≤ last_of (x ∷ drop from rows)
-  behind_last from h l = rw (behind-length from) (⊎_elim none some (same_or_not (length rows - from) 0))
+  behind_last from h l = rw (behind_length from) (⊎_elim none some (same_or_not (length rows - from) 0))
     where
       none : length rows - from ≡ 0 → x ≤ get_or (x ∷ drop from rows) (length rows - from) 0
       none z = rw z (omega arith)
@@ -69,12 +69,12 @@ module _ (x : ℕ) (rows : List ℕ) where
       some : (length rows - from ≡ 0 → ⊥) → x ≤ get_or (x ∷ drop from rows) (length rows - from) 0
       some z =
           let e : length rows - from ≡ length rows - 1 - from + 1 = omega arith in
-          rw (e, behind-at from (length rows - 1) (omega arith)) l
+          rw (e, behind_at from (length rows - 1) (omega arith)) l
 
   -- from the row at i on to the next
   pub behind_more : (least d from i : ℕ) → from ≤ i → get_or rows i 0 < 2 ^ 64 → d < 2 ^ 64 → (d + get_or rows i 0) % 2 ^ 64 ≡ get_or (x ∷ drop from rows) (i - from) 0 → Stepped least (x ∷ drop from rows) (i - from)
       → (get_or rows i 0 ≡ get_or (x ∷ drop from rows) (i + 1 - from) 0) × Stepped (bit_and least d) (x ∷ drop from rows) (i + 1 - from)
   behind_more least d from i h hb hd e s =
       let n : i + 1 - from ≡ i - from + 1 = omega arith in
-      let g : get_or (x ∷ drop from rows) (i - from + 1) 0 ≡ get_or rows i 0 = behind-at from i h in
+      let g : get_or (x ∷ drop from rows) (i - from + 1) 0 ≡ get_or rows i 0 = behind_at from i h in
       rw n (sym g, stepped_more least d (x ∷ drop from rows) (i - from) (rw g hb) hd (rw g e) s)

@@ -34,17 +34,17 @@ pub cuts-same : (rows : List ℕ) (i : ℕ) → same_at rows i ≡ true → cuts
 unfolding cuts
 cuts-same rows i e = pick_true _ _ e
 
-pub cuts-more : (rows : List ℕ) (i : ℕ) → same_at rows i ≡ false → cuts rows (suc i) ≡ cuts rows i ++ (suc i ∷ [])
+pub cuts_more : (rows : List ℕ) (i : ℕ) → same_at rows i ≡ false → cuts rows (suc i) ≡ cuts rows i ++ (suc i ∷ [])
 unfolding cuts
-cuts-more rows i e = pick_false _ _ e
+cuts_more rows i e = pick_false _ _ e
 
 cuts_grow : (rows : List ℕ) (i : ℕ) → length (cuts rows i) ≤ length (cuts rows (suc i))
 cuts_grow rows i =
-    ⊎_elim (λ e. rw (cuts-same rows i e) (omega arith)) (λ e. rw (cuts-more rows i e, length-append) (omega arith)) (either (same_at rows i))
+    ⊎_elim (λ e. rw (cuts-same rows i e) (omega arith)) (λ e. rw (cuts_more rows i e, length-append) (omega arith)) (either (same_at rows i))
 
-joins-none : (g : Gatherer) (row : ℕ) → g.rows ≡ 0 → joins g row ≡ false
+joins_none : (g : Gatherer) (row : ℕ) → g.rows ≡ 0 → joins g row ≡ false
 unfolding joins
-joins-none g row e = pick_true _ _ (eq-eqb g.rows 0 e)
+joins_none g row e = pick_true _ _ (eq-eqb g.rows 0 e)
 
 -- ---- after i + 1 rows
 
@@ -73,7 +73,7 @@ module _ (rows t : List ℕ) (none : Gatherer) (empty : none.rows ≡ 0) (clear 
   unfolding added_all added_all_to added_to cuts over
   windowed_first h room =
       let one : take 1 rows ≡ get_or rows 0 0 ∷ [] = take-suc rows 0 0 h in
-      let q : added none (get_or rows 0 0) ≡ begun none (get_or rows 0 0) = added_begins none (get_or rows 0 0) (joins-none none (get_or rows 0 0) empty) in
+      let q : added none (get_or rows 0 0) ≡ begun none (get_or rows 0 0) = added_begins none (get_or rows 0 0) (joins_none none (get_or rows 0 0) empty) in
       record {
         total = rw (one, q, empty);
         entries = rw (one, q, clear);
@@ -102,7 +102,7 @@ module _ (rows t : List ℕ) (none : Gatherer) (empty : none.rows ≡ 0) (clear 
       })
       (λ e.
       let q = added_begins (held i) (get_or rows (suc i) 0) (same_window i w ∙ e) in
-      let c = cuts-more rows i e in
+      let c = cuts_more rows i e in
       let m : suc (length (cuts rows i)) + 1 - 1 ≡ suc (length (cuts rows i)) = omega arith in
       let l : length (cuts rows i ++ (suc i ∷ [])) ≡ suc (length (cuts rows i)) = rw length-append (omega arith) in
       record {

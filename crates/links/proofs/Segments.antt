@@ -10,12 +10,12 @@ use native.Mathlib.Omega.{arith}
 use lib.Dec.{eqb, leb}
 use borrow.Author.Tests.{leb-true, leb-false, le-leb, lt-leb}
 use Rattle.model.specs.Tests.{both, pick}
-use Rattle.model.proofs.Tests.{pick-most, both_left, both_right, both_true, both_first, either, never}
+use Rattle.model.proofs.Tests.{pick_most, both_left, both_right, both_true, both_first, either, never}
 use Rattle.stats.specs.declared.Stats.{Stats}
 use Rattle.stats.specs.Statistics.{Sound, Neighbours, joined, span_of}
 use Rattle.stats.proofs.Joining.{joined-sound}
 use Rattle.cost.specs.Forms.{payload}
-use Rattle.cost.proofs.Least.{local-short}
+use Rattle.cost.proofs.Least.{local_short}
 use Rattle.links.specs.Pairs.{admits, saves, total_from, segment_of, Seeds}
 
 pub seeds_neighbours : {f : ℕ → Stats} {n : ℕ} (i : ℕ) → Seeds f n → i + 1 < n → Neighbours (f i) (f (i + 1))
@@ -23,8 +23,8 @@ seeds_neighbours i s h = rw (add-one i) (record { left = s.sound i (omega arith)
 
 -- ---- joining
 
-one-most : (t : Bool) → pick {A = ℕ} t 1 0 ≤ 1
-one-most t = pick-most t 1 0 1 (omega arith) (omega arith)
+one_most : (t : Bool) → pick {A = ℕ} t 1 0 ≤ 1
+one_most t = pick_most t 1 0 1 (omega arith) (omega arith)
 
 pub joined_assoc : (a b c : Stats) → 1 ≤ b.runs → joined (joined a b) c ≡ joined a (joined b c)
 unfolding joined
@@ -32,7 +32,7 @@ joined_assoc a b c h =
     let t : ℕ = pick (eqb b.first (suc a.last)) 1 0 in
     let u : ℕ = pick (eqb c.first (suc b.last)) 1 0 in
     let counts : a.count + b.count + c.count ≡ a.count + (b.count + c.count) = omega arith in
-    let runs : a.runs + b.runs - t + c.runs - u ≡ a.runs + (b.runs + c.runs - u) - t = omega (arith, one-most (eqb b.first (suc a.last)), one-most (eqb c.first (suc b.last))) in
+    let runs : a.runs + b.runs - t + c.runs - u ≡ a.runs + (b.runs + c.runs - u) - t = omega (arith, one_most (eqb b.first (suc a.last)), one_most (eqb c.first (suc b.last))) in
     λ i. record { first = a.first; last = c.last; count = counts i; runs = runs i }
 
 module _ {f : ℕ → Stats} {n : ℕ} (s : Seeds f n) where
@@ -42,15 +42,15 @@ module _ {f : ℕ → Stats} {n : ℕ} (s : Seeds f n) where
     pub first : (total_from f l k).first ≡ (f l).first
     pub last : (total_from f l k).last ≡ (f (l + k)).last
 
-  whole-next : (l k : ℕ) → suc (l + k) < n → Whole l k → Neighbours (total_from f l k) (f (suc (l + k)))
-  whole-next l k h w = record { left = w.sound; right = s.sound (suc (l + k)) h; apart = omega (arith, w.last, s.apart (l + k) h) }
+  whole_next : (l k : ℕ) → suc (l + k) < n → Whole l k → Neighbours (total_from f l k) (f (suc (l + k)))
+  whole_next l k h w = record { left = w.sound; right = s.sound (suc (l + k)) h; apart = omega (arith, w.last, s.apart (l + k) h) }
 
   whole : (l k : ℕ) → l + k < n → Whole l k
   unfolding total_from joined
   whole l zero h = record { sound = s.sound l (omega arith); first = refl; last = rw (add-zero l) }
   whole l (suc k) h =
       let ih = whole l k (omega arith) in
-      record { sound = joined-sound (total_from f l k) (f (suc (l + k))) (whole-next l k (omega arith) ih); first = ih.first; last = rw (add-suc l k) }
+      record { sound = joined-sound (total_from f l k) (f (suc (l + k))) (whole_next l k (omega arith) ih); first = ih.first; last = rw (add-suc l k) }
 
   total_join : (l j k : ℕ) → suc (l + (j + k)) < n → total_from f l (suc (j + k)) ≡ joined (total_from f l j) (total_from f (suc (l + j)) k)
   unfolding total_from
@@ -83,9 +83,9 @@ segment_one f i = let e : i + 1 - suc i ≡ 0 = omega arith in rw e
 
 -- ---- admission
 
-pub admits-short : (a b : Stats) → admits a b ≡ true → span_of (joined a b) ≤ 65535
+pub admits_short : (a b : Stats) → admits a b ≡ true → span_of (joined a b) ≤ 65535
 unfolding admits
-admits-short a b e = leb-true _ _ (both_left _ _ e)
+admits_short a b e = leb-true _ _ (both_left _ _ e)
 
 pub admits_pays : (a b : Stats) → admits a b ≡ true → payload (joined a b) ≤ 16 + payload a + payload b
 unfolding admits
@@ -100,13 +100,13 @@ refuses a b e h = ⊎_elim
     (either (leb (payload (joined a b)) (16 + payload a + payload b)))
 
 -- a saving has 15 bits
-pub saves-small : (a b : Stats) → Neighbours a b → admits a b ≡ true → saves a b < 32768
+pub saves_small : (a b : Stats) → Neighbours a b → admits a b ≡ true → saves a b < 32768
 unfolding saves payload joined
-saves-small a b k e =
-    let h = admits-short a b e in
+saves_small a b k e =
+    let h = admits_short a b e in
     let in-a = k.left.ordered in
     let in_b = k.right.ordered in
-    omega (arith, local-short a (omega (arith, k.apart)), local-short b (omega (arith, k.apart)))
+    omega (arith, local_short a (omega (arith, k.apart)), local_short b (omega (arith, k.apart)))
 
 -- ---- what the code computes
 

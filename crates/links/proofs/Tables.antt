@@ -166,8 +166,8 @@ module _ (l m r : ℕ) (s : Stats) (t : List ℕ) (lm : l < m) (mr : m < r) (lon
   abbrev ends : List ℕ
   ends = put (put t l 0 r) m 0 0
 
-  ends-length : length ends ≡ length t
-  ends-length = simp put-length
+  ends_length : length ends ≡ length t
+  ends_length = simp put-length
 
   linked-field : (x j : ℕ) → j < 2 → field (linked l m r s t) x j ≡ field (put ends r 1 l) x j
   unfolding linked
@@ -177,8 +177,8 @@ module _ (l m r : ℕ) (s : Stats) (t : List ℕ) (lm : l < m) (mr : m < r) (lon
   unfolding linked
   linked-length = simp (stat_length, put-length)
 
-  pub linked-left : next (linked l m r s t) l ≡ r
-  linked-left =
+  pub linked_left : next (linked l m r s t) l ≡ r
+  linked_left =
       linked-field l 0 (omega arith) ∙ put_else ends r 1 l l 0 (λ e. omega arith) ∙ put_else (put t l 0 r) m 0 0 l 0 (λ e. omega arith) ∙ put_here t l 0 r (omega arith)
 
   pub linked_gone : next (linked l m r s t) m ≡ 0
@@ -188,8 +188,8 @@ module _ (l m r : ℕ) (s : Stats) (t : List ℕ) (lm : l < m) (mr : m < r) (lon
   linked-next x a b =
       linked-field x 0 (omega arith) ∙ put_else ends r 1 l x 0 (λ e. omega arith) ∙ put_else (put t l 0 r) m 0 0 x 0 (λ e. b (omega arith)) ∙ put_else t l 0 r x 0 (λ e. a (omega arith))
 
-  pub linked-right : prev (linked l m r s t) r ≡ l
-  linked-right = linked-field r 1 (omega arith) ∙ put_here ends r 1 l (omega (arith, ends-length))
+  pub linked_right : prev (linked l m r s t) r ≡ l
+  linked_right = linked-field r 1 (omega arith) ∙ put_here ends r 1 l (omega (arith, ends_length))
 
   pub linked-prev : (x : ℕ) → (x ≡ r → ⊥) → prev (linked l m r s t) x ≡ prev t x
   linked-prev x a =
@@ -197,9 +197,9 @@ module _ (l m r : ℕ) (s : Stats) (t : List ℕ) (lm : l < m) (mr : m < r) (lon
 
   pub linked_stat : stat_at (linked l m r s t) l ≡ s
   unfolding linked
-  linked_stat = stat_here (put ends r 1 l) l s (omega (arith, put-length ends r 1 l, ends-length))
+  linked_stat = stat_here (put ends r 1 l) l s (omega (arith, put-length ends r 1 l, ends_length))
 
-  pub linked-stats : (x : ℕ) → (x ≡ l → ⊥) → stat_at (linked l m r s t) x ≡ stat_at t x
+  pub linked_stats : (x : ℕ) → (x ≡ l → ⊥) → stat_at (linked l m r s t) x ≡ stat_at t x
   unfolding linked
-  linked-stats x a =
+  linked_stats x a =
       stat_other (put ends r 1 l) l s x a ∙ put_stat_lem ends r 1 l x (omega arith) ∙ put_stat_lem (put t l 0 r) m 0 0 x (omega arith) ∙ put_stat_lem t l 0 r x (omega arith)

@@ -18,23 +18,23 @@ use Rattle.listing.proofs.Sizes.{sized_bounds}
 use Rattle.listing.specs.declared.records.Next.{Next}
 use Rattle.lister.specs.Window.{whole_of, stops_of, Whole, Slid}
 
-whole-after : (have n : ℕ) → whole_of (next_after have n) ≤ have + 4
+whole_after : (have n : ℕ) → whole_of (next_after have n) ≤ have + 4
 unfolding next_after whole_of pick
-whole-after have n =
+whole_after have n =
     ⊎_elim (λ (e : sized n ≡ true).
     ⊎_elim (λ (l : ltb have n ≡ true). rw (e, l) (omega arith)) (λ (l : ltb have n ≡ false). rw (e, l) (omega (arith, ltb-false have n l))) (either (ltb have n)))
     (λ (e : sized n ≡ false). rw e (omega arith))
     (either (sized n))
 
-pub whole-inside : (xs : List ℕ) → whole_of (next_of xs) ≤ length xs
+pub whole_inside : (xs : List ℕ) → whole_of (next_of xs) ≤ length xs
 unfolding next_of whole_of pick
-whole-inside xs =
+whole_inside xs =
     ⊎_elim (λ (e : ltb (length xs) 4 ≡ true). rw e (omega arith))
-    (λ (e : ltb (length xs) 4 ≡ false). rw e (omega (arith, ltb-false (length xs) 4 e, whole-after (length xs - 4) (be 4 xs 0))))
+    (λ (e : ltb (length xs) 4 ≡ false). rw e (omega (arith, ltb-false (length xs) 4 e, whole_after (length xs - 4) (be 4 xs 0))))
     (either (ltb (length xs) 4))
 
 pub is_whole : {xs : List ℕ} (n : Next) → n ≡ next_of xs → Whole xs (whole_of n)
-is_whole n e = record { is = ap whole_of e; inside = rw e (whole-inside _) }
+is_whole n e = record { is = ap whole_of e; inside = rw e (whole_inside _) }
 
 waits_after : (have n : ℕ) → stops_of (next_after have n) ≡ false → have < 65540
 unfolding next_after stops_of pick

@@ -42,21 +42,21 @@ after_broken : (have m : ℕ) → sized m ≡ false → next_after have m ≡ ne
 unfolding next_after pick
 after_broken have m s = rw s
 
-after-sized : (have m n : ℕ) → sized m ≡ true → next_after have m ≡ next.Record n → Fitting have n
+after_sized : (have m n : ℕ) → sized m ≡ true → next_after have m ≡ next.Record n → Fitting have n
 unfolding next_after pick
-after-sized have m n s e =
+after_sized have m n s e =
     ⊎_elim (λ (l : ltb have m ≡ true). no_record next.More n (inl refl) (rw (s, l) at e))
     (λ (l : ltb have m ≡ false). same_record m n (rw (s, l) at e) (record { sizes = s; inside = ltb-false have m l }))
     (either (ltb have m))
 
-after-fits : (have m n : ℕ) → next_after have m ≡ next.Record n → Fitting have n
-after-fits have m n e = ⊎_elim (λ (s : sized m ≡ true). after-sized have m n s e) (λ (s : sized m ≡ false). no_record (next_after have m) n (inr (after_broken have m s)) e) (either (sized m))
+after_fits : (have m n : ℕ) → next_after have m ≡ next.Record n → Fitting have n
+after_fits have m n e = ⊎_elim (λ (s : sized m ≡ true). after_sized have m n s e) (λ (s : sized m ≡ false). no_record (next_after have m) n (inr (after_broken have m s)) e) (either (sized m))
 
 pub record_fits : (xs : List ℕ) (n : ℕ) → next_of xs ≡ next.Record n → Fitting (length xs - 4) n
 unfolding next_of pick
 record_fits xs n e =
     ⊎_elim (λ (l : ltb (length xs) 4 ≡ true). no_record next.More n (inl refl) (rw l at e))
-    (λ (l : ltb (length xs) 4 ≡ false). after-fits (length xs - 4) (be 4 xs 0) n (rw l at e))
+    (λ (l : ltb (length xs) 4 ≡ false). after_fits (length xs - 4) (be 4 xs 0) n (rw l at e))
     (either (ltb (length xs) 4))
 
 -- its line is not the last

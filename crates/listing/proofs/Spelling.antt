@@ -36,10 +36,10 @@ pub put_wider : {a b : ℕ} {before after u : List ℕ} {at r : ℕ} → a ≤ b
 put_wider h p = record { written = p.written; ends = p.ends; short = omega (arith, p.short) }
 
 -- a store behind the others may come first
-pub sets-after : (vs l : List ℕ) (at j v : ℕ) → at + length vs ≤ j → set (sets l at vs) j v ≡ sets (set l j v) at vs
-sets-after [] l at j v h = refl
-sets-after (a ∷ vs) l at j v h =
-    sets-after vs (set l at a) (suc at) j v (omega arith) ∙ ap (λ (k : List ℕ). sets k (suc at) vs) (set_comm l at j a v (λ e. omega arith))
+pub sets_after : (vs l : List ℕ) (at j v : ℕ) → at + length vs ≤ j → set (sets l at vs) j v ≡ sets (set l j v) at vs
+sets_after [] l at j v h = refl
+sets_after (a ∷ vs) l at j v h =
+    sets_after vs (set l at a) (suc at) j v (omega arith) ∙ ap (λ (k : List ℕ). sets k (suc at) vs) (set_comm l at j a v (λ e. omega arith))
 
 -- ---- digits
 
@@ -49,16 +49,16 @@ length-places zero n = refl
 length-places (suc k) n = rw length-append (omega (arith, length-places k (n / 10)))
 
 -- one turn of the loop that writes from the last digit on
-pub places-step : (k n : ℕ) (l : List ℕ) (at : ℕ) → sets l at (places (suc k) n) ≡ sets (set l (at + k) (48 + n % 10)) at (places k (n / 10))
+pub places_step : (k n : ℕ) (l : List ℕ) (at : ℕ) → sets l at (places (suc k) n) ≡ sets (set l (at + k) (48 + n % 10)) at (places k (n / 10))
 unfolding places
-places-step k n l at =
+places_step k n l at =
     sets-append (places k (n / 10)) ((48 + n % 10) ∷ []) l at
-    ∙ rw (length-places k (n / 10)) (sets-after (places k (n / 10)) l at (at + k) (48 + n % 10) (rw (length-places k (n / 10)) (omega arith)))
+    ∙ rw (length-places k (n / 10)) (sets_after (places k (n / 10)) l at (at + k) (48 + n % 10) (rw (length-places k (n / 10)) (omega arith)))
 
 -- one more digit behind
-places-more : (xs : List ℕ) (n : ℕ) → xs ≡ places (length xs) (n / 10) → xs ++ ((48 + n % 10) ∷ []) ≡ places (length (xs ++ ((48 + n % 10) ∷ []))) n
+places_more : (xs : List ℕ) (n : ℕ) → xs ≡ places (length xs) (n / 10) → xs ++ ((48 + n % 10) ∷ []) ≡ places (length (xs ++ ((48 + n % 10) ∷ []))) n
 unfolding places
-places-more xs n h =
+places_more xs n h =
     let e : length (xs ++ ((48 + n % 10) ∷ [])) ≡ suc (length xs) = rw length-append (omega arith) in
     rw e (ap (λ (ys : List ℕ). ys ++ ((48 + n % 10) ∷ [])) h)
 
@@ -66,42 +66,42 @@ places-more xs n h =
 pub digits-places : (f n : ℕ) → digits f n ≡ places (length (digits f n)) n
 unfolding digits places pick
 digits-places zero n = refl
-digits-places (suc f) n = ⊎_elim (λ e. rw e) (λ e. rw e (places-more (digits f (n / 10)) n (digits-places f (n / 10)))) (either (eqb n 0))
+digits-places (suc f) n = ⊎_elim (λ e. rw e) (λ e. rw e (places_more (digits f (n / 10)) n (digits-places f (n / 10)))) (either (eqb n 0))
 
 pub decimal-places : (n : ℕ) → decimal n ≡ places (length (decimal n)) n
 unfolding decimal
-decimal-places n = places-more (digits 19 (n / 10)) n (digits-places 19 (n / 10))
+decimal-places n = places_more (digits 19 (n / 10)) n (digits-places 19 (n / 10))
 
 -- no digits of 0
-pub digits-none : (f n : ℕ) → n ≡ 0 → digits f n ≡ []
+pub digits_none : (f n : ℕ) → n ≡ 0 → digits f n ≡ []
 unfolding digits pick
-digits-none zero n e = refl
-digits-none (suc f) n e = rw (eq-eqb n 0 e)
+digits_none zero n e = refl
+digits_none (suc f) n e = rw (eq-eqb n 0 e)
 
-pub digits-short : (f n : ℕ) → length (digits f n) ≤ f
+pub digits_short : (f n : ℕ) → length (digits f n) ≤ f
 unfolding digits pick
-digits-short zero n = omega arith
-digits-short (suc f) n =
+digits_short zero n = omega arith
+digits_short (suc f) n =
     ⊎_elim (λ e. rw e (omega arith))
-    (λ e. rw e (omega (arith, length-append (digits f (n / 10)) ((48 + n % 10) ∷ []), digits-short f (n / 10))))
+    (λ e. rw e (omega (arith, length-append (digits f (n / 10)) ((48 + n % 10) ∷ []), digits_short f (n / 10))))
     (either (eqb n 0))
 
-pub decimal-short : (n : ℕ) → length (decimal n) ≤ 20
+pub decimal_short : (n : ℕ) → length (decimal n) ≤ 20
 unfolding decimal
-decimal-short n = omega (arith, length-append (digits 19 (n / 10)) ((48 + n % 10) ∷ []), digits-short 19 (n / 10))
+decimal_short n = omega (arith, length-append (digits 19 (n / 10)) ((48 + n % 10) ∷ []), digits_short 19 (n / 10))
 
 -- a number below ten to the f has no more than f digits
 pub digits_enough : (f n : ℕ) → n < 10 ^ f → digits (suc f) n ≡ digits f n
 unfolding digits pick
-digits_enough zero n h = digits-none 1 n (omega (arith, rw pow-zero at h))
+digits_enough zero n h = digits_none 1 n (omega (arith, rw pow-zero at h))
 digits_enough (suc f) n h =
     let b : n / 10 < 10 ^ f = omega (arith, rw pow-succ' at h) in
     ⊎_elim (λ e. rw e) (λ e. rw (e, digits_enough f (n / 10) b)) (either (eqb n 0))
 
 -- one turn of the loop that counts digits
-pub digits-count : (f n : ℕ) → 0 < n → n < 10 ^ suc f → length (digits (suc f) n) ≡ suc (length (digits (suc f) (n / 10)))
+pub digits_count : (f n : ℕ) → 0 < n → n < 10 ^ suc f → length (digits (suc f) n) ≡ suc (length (digits (suc f) (n / 10)))
 unfolding digits pick
-digits-count f n l h =
+digits_count f n l h =
     let b : n / 10 < 10 ^ f = omega (arith, rw pow-succ' at h) in
     rw (ne_eqb n 0 (λ e. omega arith), digits_enough f (n / 10) b) (omega (arith, length-append (digits f (n / 10)) ((48 + n % 10) ∷ [])))
 
@@ -118,11 +118,11 @@ counting_start v h = record { counted = rw length-append (omega arith); small = 
 
 pub counting_next : (v n rest : ℕ) → Counting v n rest → 0 < rest → Counting v (n + 1) (rest / 10)
 counting_next v n rest w h =
-    let more = digits-count 18 rest h w.small in
-    record { counted = omega (arith, w.counted, more); small = omega (arith, w.small); few = omega (arith, w.counted, more, decimal-short v) }
+    let more = digits_count 18 rest h w.small in
+    record { counted = omega (arith, w.counted, more); small = omega (arith, w.small); few = omega (arith, w.counted, more, decimal_short v) }
 
 pub counting_end : (v n rest : ℕ) → Counting v n rest → rest ≤ 0 → n ≡ length (decimal v)
-counting_end v n rest w h = omega (arith, w.counted, ap length (digits-none 19 rest (omega arith)))
+counting_end v n rest w h = omega (arith, w.counted, ap length (digits_none 19 rest (omega arith)))
 
 -- ---- the loop that writes digits: what is left to write, over what is written, is the whole
 
@@ -140,7 +140,7 @@ placing_next {left = zero} p h e = absurd (omega arith)
 placing_next {first = first} {out = out} {at = at} {left = suc l} {rest = rest} p h e =
     let same : suc l - 1 ≡ l = omega arith in
     record {
-      whole = rw (same, e, ← places-step l rest out at) p.whole;
+      whole = rw (same, e, ← places_step l rest out at) p.whole;
       size = rw length-set p.size;
       below = omega (arith, p.below);
     }
@@ -171,4 +171,4 @@ copying_end {word = word} {i = i} p h = record { written = rw (take_all i word h
 -- ---- a number, once its digits are counted and written
 
 pub decimal-put : (v : ℕ) {n at : ℕ} {before after : List ℕ} → n ≡ length (decimal v) → after ≡ sets before at (places n v) → Put 20 before at (decimal v) after (at + n)
-decimal-put v e w = record { written = rw (decimal-places v, ← e) w; ends = omega (arith, e); short = decimal-short v }
+decimal-put v e w = record { written = rw (decimal-places v, ← e) w; ends = omega (arith, e); short = decimal_short v }

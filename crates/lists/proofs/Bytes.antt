@@ -3,9 +3,9 @@
 use Rattle.std.proofs.Common.{◌≡◌, ℕ, zero, suc, ◌+◌, ◌*◌, ◌%◌, ◌^◌, ◌<◌, ◌≤◌, List, [], ◌∷◌, ◌++◌, length, get_or, take, drop, sym, refl, ◌∙◌, append_assoc, append-nil, suc-mul, zero-mul, arith, length-append, take-add}
 use Rattle.fields.specs.Le.{Bytes, digits}
 use Rattle.fields.proofs.Laws.{length_digits, digits_le}
-use Rattle.fields.proofs.Tables.{le-behind}
+use Rattle.fields.proofs.Tables.{le_behind}
 use Rattle.model.specs.Tests.{tabulate}
-use Rattle.search.proofs.Entries.{entry_at, entry-behind}
+use Rattle.search.proofs.Entries.{entry_at, entry_behind}
 use Rattle.lists.specs.Lists.{list_layout, item}
 
 module _ (w : ℕ) where
@@ -24,8 +24,8 @@ module _ (w : ℕ) where
   pub layout_item : (xs : List ℕ) (i : ℕ) → i < length xs → item w (list_layout w xs) i ≡ get_or xs i 0 % 256 ^ w
   unfolding list_layout
   layout_item [] i h = absurd (omega arith)
-  layout_item (x ∷ xs) zero h = rw (← entry_at, zero-mul) (le-behind w x 0 [] (list_layout w xs) refl)
-  layout_item (x ∷ xs) (suc i) h = entry-behind w 0 w (digits w x) (list_layout w xs) i (length_digits w x) ∙ layout_item xs i (omega arith)
+  layout_item (x ∷ xs) zero h = rw (← entry_at, zero-mul) (le_behind w x 0 [] (list_layout w xs) refl)
+  layout_item (x ∷ xs) (suc i) h = entry_behind w 0 w (digits w x) (list_layout w xs) i (length_digits w x) ∙ layout_item xs i (omega arith)
 
   -- ---- the bytes are those of the numbers read
 

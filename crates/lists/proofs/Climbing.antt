@@ -3,10 +3,10 @@
 use Rattle.std.proofs.Common.{◌≡◌, ℕ, suc, ◌+◌, ◌-◌, ◌<◌, ◌≤◌, Bool, true, ◌&&◌, ltb, List, length, get_or, refl, ◌∙◌, ⊎_elim, arith, ltb-true, lt-ltb}
 use Rattle.model.specs.Tests.{both, all, tabulate}
 use Rattle.model.specs.Lists.{Rising}
-use Rattle.model.proofs.Tests.{both_true, both_left, both_right, all-at, all_from, all-step, last_or_before, length-tabulate, get_d_tabulate, same_test}
+use Rattle.model.proofs.Tests.{both_true, both_left, both_right, all_at, all_from, all_step, last_or_before, length-tabulate, get_or-tabulate, same_test}
 use Rattle.model.proofs.Counted.{and_both}
-use Rattle.model.proofs.Windows.{windows-apart}
-use Rattle.model.proofs.Rising.{rising_tests, rising-below, rising_strict}
+use Rattle.model.proofs.Windows.{windows_apart}
+use Rattle.model.proofs.Rising.{rising_tests, rising_below, rising_strict}
 use Rattle.lists.specs.Lists.{climbs, rises_below}
 
 -- ---- the check's loop: i pairs were compared
@@ -23,14 +23,14 @@ module _ (f : ℕ → ℕ) where
   unfolding climbs
   climbing_next {m} {i} {ok} u v s l p q =
       let e : i + 1 ≡ suc i = omega arith in
-      record { upto = omega arith; flag = and_both ok (ltb u v) ∙ rw (s.flag, p, q, all-step (climbs f) i, e) }
+      record { upto = omega arith; flag = and_both ok (ltb u v) ∙ rw (s.flag, p, q, all_step (climbs f) i, e) }
 
   -- ---- rising values: the last is the largest
 
   pub climbs_far : (m : ℕ) → all (climbs f) m ≡ true → (i j : ℕ) → i < j → j ≤ m → f i < f j
   unfolding climbs
   climbs_far m ok i j l h =
-      windows-apart f (λ (k : ℕ). suc (f k)) (suc m) (λ k q. omega arith) (λ k q. ltb-true (f k) (f (suc k)) (all-at (climbs f) m ok k (omega arith))) i j l (omega arith)
+      windows_apart f (λ (k : ℕ). suc (f k)) (suc m) (λ k q. omega arith) (λ k q. ltb-true (f k) (f (suc k)) (all_at (climbs f) m ok k (omega arith))) i j l (omega arith)
 
   module _ (span : ℕ) where
     below_last : (m : ℕ) → all (climbs f) m ≡ true → f m < span → (i : ℕ) → i < suc m → ltb (f i) span ≡ true
@@ -43,35 +43,35 @@ module _ (f : ℕ → ℕ) where
         (λ e.
         let ok = both_left _ _ e in
         both_true _ _ ok (all_from (λ (i : ℕ). ltb (f i) span) (suc m) (below_last m ok (ltb-true (f m) span (both_right _ _ e)))))
-        (λ e. both_true _ _ (both_left _ _ e) (all-at (λ (i : ℕ). ltb (f i) span) (suc m) (both_right _ _ e) m (omega arith)))
+        (λ e. both_true _ _ (both_left _ _ e) (all_at (λ (i : ℕ). ltb (f i) span) (suc m) (both_right _ _ e) m (omega arith)))
 
     -- the code's answers: no values, or the flag and the last value v
-    pub rises-none : {n : ℕ} → n ≡ 0 → true ≡ rises_below f span n
+    pub rises_none : {n : ℕ} → n ≡ 0 → true ≡ rises_below f span n
     unfolding rises_below all both
-    rises-none e = rw e
+    rises_none e = rw e
 
-    pub rises-end : {n i : ℕ} {ok : Bool} (v : ℕ) → (n ≡ 0 → ⊥) → Climbing f (n - 1) ok i → n - 1 ≤ i → v ≡ f (n - 1) → ok && ltb v span ≡ rises_below f span n
+    pub rises_end : {n i : ℕ} {ok : Bool} (v : ℕ) → (n ≡ 0 → ⊥) → Climbing f (n - 1) ok i → n - 1 ≤ i → v ≡ f (n - 1) → ok && ltb v span ≡ rises_below f span n
     unfolding rises_below
-    rises-end {n} {i} {ok} v z s g e =
+    rises_end {n} {i} {ok} v z s g e =
         let q : i ≡ n - 1 = omega (arith, s.upto) in
         let m : n ≡ suc (n - 1) = omega arith in
         and_both ok (ltb v span) ∙ rw (s.flag, e, q) (rises_suc (n - 1) ∙ rw (← m))
 
     -- ---- against the list
 
-    pub rises-rising : (n : ℕ) → rises_below f span n ≡ true → Rising 0 span (tabulate f n)
+    pub rises_rising : (n : ℕ) → rises_below f span n ≡ true → Rising 0 span (tabulate f n)
     unfolding rises_below
-    rises-rising n ok =
+    rises_rising n ok =
         let size = length-tabulate f n in
-        let val : (i : ℕ) → i < n → get_or (tabulate f n) i 0 ≡ f i = λ i l. get_d_tabulate f n i 0 l in
+        let val : (i : ℕ) → i < n → get_or (tabulate f n) i 0 ≡ f i = λ i l. get_or-tabulate f n i 0 l in
         rising_tests 0 span (tabulate f n)
         (λ i l. omega arith)
-        (λ i l. let h : i < n = omega arith in rw (val i h) (ltb-true (f i) span (all-at (λ (j : ℕ). ltb (f j) span) n (both_right _ _ ok) i h)))
+        (λ i l. let h : i < n = omega arith in rw (val i h) (ltb-true (f i) span (all_at (λ (j : ℕ). ltb (f j) span) n (both_right _ _ ok) i h)))
         (λ i l. let h : suc i < n = omega arith in rw (val i (omega arith), val (suc i) h) (climbs_far (n - 1) (both_left _ _ ok) i (suc i) (omega arith) (omega arith)))
 
-    pub rising-rises : {a : ℕ} {xs : List ℕ} → Rising a span xs → ((i : ℕ) → i < length xs → f i ≡ get_or xs i 0) → rises_below f span (length xs) ≡ true
+    pub rising_rises : {a : ℕ} {xs : List ℕ} → Rising a span xs → ((i : ℕ) → i < length xs → f i ≡ get_or xs i 0) → rises_below f span (length xs) ≡ true
     unfolding rises_below climbs
-    rising-rises {a} {xs} r e =
+    rising_rises {a} {xs} r e =
         both_true _ _
         (all_from (climbs f) (length xs - 1) (λ i l. rw (e i (omega arith), e (suc i) (omega arith)) (lt-ltb _ _ (rising_strict r i (suc i) (omega arith) (omega arith)))))
-        (all_from (λ (i : ℕ). ltb (f i) span) (length xs) (λ i l. rw (e i l) (lt-ltb _ _ (rising-below r i l))))
+        (all_from (λ (i : ℕ). ltb (f i) span) (length xs) (λ i l. rw (e i l) (lt-ltb _ _ (rising_below r i l))))

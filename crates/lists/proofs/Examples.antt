@@ -32,9 +32,9 @@ unfolding list_place place_at find bsearch up_to allowed entry le pick
 past = refl
 
 -- the last item equal to the span, an item twice, a count of 0, another length
-at-span : list_accepts 2 body 5 3 ≡ false
+at_span : list_accepts 2 body 5 3 ≡ false
 unfolding list_accepts counted rises_below climbs all both entry le
-at-span = refl
+at_span = refl
 
 twice : list_accepts 2 (3 ∷ 0 ∷ 3 ∷ 0 ∷ []) 10 2 ≡ false
 unfolding list_accepts counted rises_below climbs all both entry le
@@ -57,18 +57,18 @@ wide : list_names 4 (0 ∷ 0 ∷ 1 ∷ 0 ∷ []) 1 ≡ 65536 ∷ []
 unfolding list_names tabulate entry le
 wide = refl
 
-wide-taken : list_accepts 4 (0 ∷ 0 ∷ 1 ∷ 0 ∷ []) 65537 1 ≡ true
+wide_taken : list_accepts 4 (0 ∷ 0 ∷ 1 ∷ 0 ∷ []) 65537 1 ≡ true
 unfolding list_accepts counted rises_below climbs all both entry le
-wide-taken = refl
+wide_taken = refl
 
 -- [100, 105), all rows: no bytes. Span 65536 is refused
 dense : dense_accepts [] 5 5 ≡ true
 unfolding dense_accepts counted both
 dense = refl
 
-dense-named : dense_names 5 ≡ 0 ∷ 1 ∷ 2 ∷ 3 ∷ 4 ∷ []
+dense_named : dense_names 5 ≡ 0 ∷ 1 ∷ 2 ∷ 3 ∷ 4 ∷ []
 unfolding range
-dense-named = refl
+dense_named = refl
 
 dense_large : dense_accepts [] 65536 65536 ≡ false
 unfolding dense_accepts counted both

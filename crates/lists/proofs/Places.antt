@@ -3,11 +3,11 @@
 use Rattle.std.proofs.Common.{◌≡◌, ℕ, zero, suc, ◌-◌, ◌<◌, ◌≤◌, true, false, eqb, length, get_or, sym, ◌∙◌, ⊎_elim, eq-or-lt_of_le, arith, eq-eqb, ne_eqb}
 use Rattle.model.specs.Tests.{pick, tabulate}
 use Rattle.model.specs.Lists.{Rising, below, has, place_of}
-use Rattle.model.proofs.Tests.{either, same_or_not, pick_true, pick_false, length-tabulate, get_d_tabulate}
+use Rattle.model.proofs.Tests.{either, same_or_not, pick_true, pick_false, length-tabulate, get_or-tabulate}
 use Rattle.model.proofs.Rising.{rising_strict}
-use Rattle.model.proofs.Standing.{below-cut, below_at, has-at, has-index}
+use Rattle.model.proofs.Standing.{below_cut, below_at, has_at, has_index}
 use Rattle.search.specs.Search.{find, up_to, Cut}
-use Rattle.search.proofs.Laws.{find-cut, falls_level, at_most, above}
+use Rattle.search.proofs.Laws.{find_cut, falls_level, at_most, above}
 use Rattle.lists.specs.Lists.{place_at}
 
 -- ---- the code's answers: the search's answer k and, past 0, the value v before it
@@ -34,7 +34,7 @@ module _ (f : ℕ → ℕ) (n : ℕ) {a b : ℕ} (r : Rising a b (tabulate f n))
   strict : (i j : ℕ) → i < j → j < n → f i < f j
   strict i j l h =
       let s = rising_strict r i j l (omega (arith, length-tabulate f n)) in
-      rw (get_d_tabulate f n i 0 (omega arith), get_d_tabulate f n j 0 h) at s
+      rw (get_or-tabulate f n i 0 (omega arith), get_or-tabulate f n j 0 h) at s
 
   level : (i j : ℕ) → i ≤ j → j < n → f i ≤ f j
   level i j l h = ⊎_elim (λ q. rw q (omega arith)) (λ m. omega (arith, strict i j m h)) (eq-or-lt_of_le l)
@@ -45,17 +45,17 @@ module _ (f : ℕ → ℕ) (n : ℕ) {a b : ℕ} (r : Rising a b (tabulate f n))
       stands : below (tabulate f n) p ≡ k
       stands =
           let size = length-tabulate f n in
-          below-cut (tabulate f n) p k (omega (arith, c.within))
-          (λ i l. rw (get_d_tabulate f n i 0 (omega (arith, c.within))) (under i l))
-          (λ i g l. let h : i < n = omega arith in rw (get_d_tabulate f n i 0 h) (omega (arith, above f p i (c.from i g h))))
+          below_cut (tabulate f n) p k (omega (arith, c.within))
+          (λ i l. rw (get_or-tabulate f n i 0 (omega (arith, c.within))) (under i l))
+          (λ i g l. let h : i < n = omega arith in rw (get_or-tabulate f n i 0 h) (omega (arith, above f p i (c.from i g h))))
 
       absent : has (tabulate f n) p ≡ false
       absent =
           ⊎_elim
           (λ e.
-          let s = rw stands at (has-index r p e) in
+          let s = rw stands at (has_index r p e) in
           let h : k < n = omega (arith, s.0, length-tabulate f n) in
-          absurd (omega (arith, above f p k (c.from k (omega arith) h), sym (get_d_tabulate f n k 0 h) ∙ s.1)))
+          absurd (omega (arith, above f p k (c.from k (omega arith) h), sym (get_or-tabulate f n k 0 h) ∙ s.1)))
           (λ e. e)
           (either (has (tabulate f n) p))
 
@@ -66,9 +66,9 @@ module _ (f : ℕ → ℕ) (n : ℕ) {a b : ℕ} (r : Rising a b (tabulate f n))
   hit : (k : ℕ) → k < n → f k ≡ p → place_of (tabulate f n) p ≡ record { below = k; present = true }
   unfolding place_of
   hit k h e =
-      let at : get_or (tabulate f n) k 0 ≡ p = get_d_tabulate f n k 0 h ∙ e in
+      let at : get_or (tabulate f n) k 0 ≡ p = get_or-tabulate f n k 0 h ∙ e in
       let l : k < length (tabulate f n) = omega (arith, length-tabulate f n) in
-      rw (← at) (rw (below_at r k l, has-at (tabulate f n) k l))
+      rw (← at) (rw (below_at r k l, has_at (tabulate f n) k l))
 
   placed_at : (k : ℕ) → Cut (up_to false f p) n k → place_at f p k ≡ place_of (tabulate f n) p
   unfolding place_at
@@ -82,4 +82,4 @@ module _ (f : ℕ → ℕ) (n : ℕ) {a b : ℕ} (r : Rising a b (tabulate f n))
       (same_or_not (f k) p)
 
   pub placed : place_at f p (find (up_to false f p) 0 n) ≡ place_of (tabulate f n) p
-  placed = placed_at _ (find-cut (up_to false f p) n (falls_level f p n level))
+  placed = placed_at _ (find_cut (up_to false f p) n (falls_level f p n level))

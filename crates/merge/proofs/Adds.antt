@@ -13,7 +13,7 @@ use Rattle.model.proofs.Tests.{either, never, same_or_not, both_first}
 use Rattle.stats.specs.declared.Stats.{Stats}
 use Rattle.queue.specs.Keys.{key, occ, one, Heap}
 use Rattle.queue.specs.Steps.{Pushed, Popped}
-use Rattle.queue.proofs.Keys.{one_same, one-other, occ-some}
+use Rattle.queue.proofs.Keys.{one_same, one_other, occ_some}
 use Rattle.links.specs.Keys.{code}
 use Rattle.links.specs.Pairs.{admits, saves}
 use Rattle.links.specs.Tables.{records, waiting, next, prev, stat_at}
@@ -53,15 +53,15 @@ pub offered_no : (n q l m r : ℕ) (w : List ℕ) (a b : Stats) → a ≡ stat_a
 offered_no n q l m r w a b ea eb f h = added_no (rw (← ea, ← eb) f) h
 
 -- the pair to the left, read at p, and the pair to the right, read at z
-pub added-left : {n q : ℕ} {w w' : List ℕ} {c : ℕ} (l r p : ℕ) → 0 < l → p ≡ prev (records n w) l → Added n q (pair_is (records n w) p l) (pair_key (records n w) p l r) w w' c
+pub added_left : {n q : ℕ} {w w' : List ℕ} {c : ℕ} (l r p : ℕ) → 0 < l → p ≡ prev (records n w) l → Added n q (pair_is (records n w) p l) (pair_key (records n w) p l r) w w' c
     → Added n q (left_is (records n w) l) (left_key (records n w) l r) w w' c
 unfolding both
-added-left l r p z e a = rw (lt-ltb 0 l z) (rw e at a)
+added_left l r p z e a = rw (lt-ltb 0 l z) (rw e at a)
 
-pub added-right : {n q : ℕ} {w w' : List ℕ} {c : ℕ} (l r z : ℕ) → 0 < z → z ≡ next (records n w) r → Added n q (pair_is (records n w) l r) (pair_key (records n w) l r z) w w' c
+pub added_right : {n q : ℕ} {w w' : List ℕ} {c : ℕ} (l r z : ℕ) → 0 < z → z ≡ next (records n w) r → Added n q (pair_is (records n w) l r) (pair_key (records n w) l r z) w w' c
     → Added n q (right_is (records n w) l r) (right_key (records n w) l r) w w' c
 unfolding both
-added-right {n = n} {w = w} l r z h e a = rw (lt-ltb 0 (next (records n w) r) (omega arith)) (rw e at a)
+added_right {n = n} {w = w} l r z h e a = rw (lt-ltb 0 (next (records n w) r) (omega arith)) (rw e at a)
 
 pub added_none : {n q k : ℕ} {w : List ℕ} (x : ℕ) (t : Bool) → x ≤ 0 → Heap (waiting n w) q → Added n q (both (ltb 0 x) t) k w w q
 added_none x t z h = added_no (both_first _ _ (le-ltb 0 x z)) h
@@ -88,9 +88,9 @@ module _ {n q : ℕ} {t : Bool} {k : ℕ} {w w' : List ℕ} {c : ℕ} (a : Added
   pub added_new : t ≡ true → Has (waiting n w') c k
   added_new e = omega (arith, a.put e k, one_same k)
 
-  pub added-only : (x : ℕ) → Has (waiting n w') c x → Has (waiting n w) q x ⊎ ((t ≡ true) × (x ≡ k))
-  added-only x h = ⊎_elim
-      (λ e. ⊎_elim (λ y. inr (e, sym y)) (λ ne. inl (omega (arith, a.put e x, one-other k x ne))) (same_or_not k x))
+  pub added_only : (x : ℕ) → Has (waiting n w') c x → Has (waiting n w) q x ⊎ ((t ≡ true) × (x ≡ k))
+  added_only x h = ⊎_elim
+      (λ e. ⊎_elim (λ y. inr (e, sym y)) (λ ne. inl (omega (arith, a.put e x, one_other k x ne))) (same_or_not k x))
       (λ e. inl (omega (arith, a.not e x)))
       (either t)
 
@@ -101,10 +101,10 @@ module _ {q k : ℕ} {h h₁ : List ℕ} (p : Popped h q k h₁) where
   popped_in = omega (arith, p.keys k, one_same k)
 
   pub popped_top : (x : ℕ) → Has h q x → x ≤ k
-  popped_top x e = let r = occ-some (key h) q x e in omega (arith, r.2, p.largest r.0 r.1)
+  popped_top x e = let r = occ_some (key h) q x e in omega (arith, r.2, p.largest r.0 r.1)
 
   pub popped_old : (x : ℕ) → Has h₁ (q - 1) x → Has h q x
   popped_old x e = omega (arith, p.keys x)
 
   pub popped_kept : (x : ℕ) → Has h q x → (x ≡ k → ⊥) → Has h₁ (q - 1) x
-  popped_kept x e ne = omega (arith, p.keys x, one-other k x (λ y. ne (sym y)))
+  popped_kept x e ne = omega (arith, p.keys x, one_other k x (λ y. ne (sym y)))

@@ -15,15 +15,15 @@ use Rattle.links.specs.Links.{Chain, end, link}
 use Rattle.merge.specs.Rule.{one_if, contains, pairs_with}
 use Rattle.merge.proofs.Cuts.{Meet, here, there, In, first, later, in_cases, in_some, meet_order}
 use Rattle.merge.proofs.Links.{Linked, chain_next}
-use Rattle.merge.proofs.Offers.{contains-not, not-counted, with_none}
+use Rattle.merge.proofs.Offers.{contains_not, not_counted, with_none}
 
-contains-first : (x y l m r : ℕ) → l ≡ x → m ≡ y → contains x y l m r ≡ true
+contains_first : (x y l m r : ℕ) → l ≡ x → m ≡ y → contains x y l m r ≡ true
 unfolding contains both pick
-contains-first x y l m r p q = rw (eq-eqb l x p, eq-eqb m y q)
+contains_first x y l m r p q = rw (eq-eqb l x p, eq-eqb m y q)
 
-contains-second : (x y l m r : ℕ) → (l ≡ x → ⊥) → m ≡ x → r ≡ y → contains x y l m r ≡ true
+contains_second : (x y l m r : ℕ) → (l ≡ x → ⊥) → m ≡ x → r ≡ y → contains x y l m r ≡ true
 unfolding contains both pick
-contains-second x y l m r p q s = rw (ne_eqb l x p, eq-eqb m x q, eq-eqb r y s)
+contains_second x y l m r p q s = rw (ne_eqb l x p, eq-eqb m x q, eq-eqb r y s)
 
 counted_as : (t u : Bool) → t ≡ true → one_if (both t u) ≡ one_if u
 unfolding both
@@ -40,9 +40,9 @@ module _ (adm : ℕ → ℕ → ℕ → Bool) where
   -- the segment is the first one
   at_first : {nx : ℕ → ℕ} {o b : ℕ} (l r : ℕ) (t : List ℕ) → Rising o b (l ∷ r ∷ t) → Chain nx (r ∷ t) → pairs_with adm l r (l ∷ r ∷ t) ≡ right_of nx l r
   unfolding pairs_with
-  at_first {nx} l r [] ri (end e) = sym (not-counted (ltb 0 (nx r)) (adm l r (nx r)) (le-ltb 0 (nx r) (omega arith)))
+  at_first {nx} l r [] ri (end e) = sym (not_counted (ltb 0 (nx r)) (adm l r (nx r)) (le-ltb 0 (nx r) (omega arith)))
   at_first {nx} l r (z ∷ t) (more p q (more p' q' (more p'' q'' ri))) (link e ch) =
-      omega (arith, counted_as (contains l r l r z) (adm l r z) (contains-first l r l r z refl refl), with_none adm l r (r ∷ z ∷ t) (more p' q' (more p'' q'' ri)) (omega arith), right_is_lem nx l r z e (omega arith))
+      omega (arith, counted_as (contains l r l r z) (adm l r z) (contains_first l r l r z refl refl), with_none adm l r (r ∷ z ∷ t) (more p' q' (more p'' q'' ri)) (omega arith), right_is_lem nx l r z e (omega arith))
 
   with_step : (x y l m r : ℕ) (cs : List ℕ) → pairs_with adm x y (l ∷ m ∷ r ∷ cs) ≡ one_if (both (contains x y l m r) (adm l m r)) + pairs_with adm x y (m ∷ r ∷ cs)
   unfolding pairs_with
@@ -64,14 +64,14 @@ module _ (adm : ℕ → ℕ → ℕ → Bool) where
       inr (
         x,
         rw (← f.0, ← er) here,
-        omega (arith, with_step l r x y u t, counted_as (contains l r x y u) (adm x y u) (contains-second l r x y u (λ i. omega (arith, f.0)) f.0 er), f.1),
+        omega (arith, with_step l r x y u t, counted_as (contains l r x y u) (adm x y u) (contains_second l r x y u (λ i. omega (arith, f.0)) f.0 er), f.1),
       ))
       (λ f.
       let o = meet_order (more (le_refl y) q' (more p'' q'' ri)) f.1 in
       inr (
         f.0,
         there {l = f.0} f.1,
-        omega (arith, with_step l r x y u t, not-counted (contains l r x y u) (adm x y u) (contains-not l r x y u (λ i. omega arith) (λ i. omega arith)), f.2),
+        omega (arith, with_step l r x y u t, not_counted (contains l r x y u) (adm x y u) (contains_not l r x y u (λ i. omega arith) (λ i. omega arith)), f.2),
       ))
       (found y (u ∷ t) (more p' q' (more p'' q'' ri)) (link e' ch) w h z)
 
@@ -79,7 +79,7 @@ module _ (adm : ℕ → ℕ → ℕ → Bool) where
   pub around : {n : ℕ} {nx : ℕ → ℕ} {t : List ℕ} (l r P : ℕ) → Linked n nx (0 ∷ t) → In (0 ∷ t) l → nx l ≡ r → 0 < r → ((p : ℕ) → nx p ≡ l → 0 < l → P ≡ p)
       → pairs_with adm l r (0 ∷ t) ≡ one_if (both (ltb 0 l) (adm P l r)) + right_of nx l r
   around {t = t} l r P k w e z before = ⊎_elim
-      (λ f. omega (arith, not-counted (ltb 0 l) (adm P l r) (le-ltb 0 l (omega (arith, f.0))), f.1))
+      (λ f. omega (arith, not_counted (ltb 0 l) (adm P l r) (le-ltb 0 l (omega (arith, f.0))), f.1))
       (λ f.
       let zl : 0 < l = omega (arith, meet_order k.rising f.1) in
       let ep : P ≡ f.0 = before f.0 (chain_next k.chain f.1).0 zl in

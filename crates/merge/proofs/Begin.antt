@@ -19,37 +19,37 @@ use Rattle.links.proofs.Tables.{records-length, records_far}
 use Rattle.links.proofs.Segments.{segment_one}
 use Rattle.merge.specs.Rule.{one_if, cuts_from, pairs, after_joins, later_offers, merged, offers}
 use Rattle.merge.specs.Steps.{Added, Offering}
-use Rattle.merge.proofs.Cuts.{cuts-rising, cuts_in, cuts_meet, meet_order}
+use Rattle.merge.proofs.Cuts.{cuts_rising, cuts_in, cuts_meet, meet_order}
 use Rattle.merge.proofs.Links.{Linked}
-use Rattle.merge.proofs.Offers.{one-most}
+use Rattle.merge.proofs.Offers.{one_most}
 use Rattle.merge.proofs.Queue.{Waiting, along3}
-use Rattle.merge.proofs.Adds.{Has, added_as, added-kept, added_new, added-only}
+use Rattle.merge.proofs.Adds.{Has, added_as, added-kept, added_new, added_only}
 use Rattle.merge.proofs.State.{State}
 
 -- ---- the offers of the start
 
 -- a pair of seeds
-seed-admitted : (f : ℕ → Stats) (i : ℕ) → admits (f i) (f (i + 1)) ≡ admitted f i (i + 1) (i + 2)
+seed_admitted : (f : ℕ → Stats) (i : ℕ) → admits (f i) (f (i + 1)) ≡ admitted f i (i + 1) (i + 2)
 unfolding admitted
-seed-admitted f i = let e : i + 2 ≡ i + 1 + 1 = omega arith in rw (e, segment_one f i, segment_one f (i + 1))
+seed_admitted f i = let e : i + 2 ≡ i + 1 + 1 = omega arith in rw (e, segment_one f i, segment_one f (i + 1))
 
-seed-saving : (f : ℕ → Stats) (i : ℕ) → saves (f i) (f (i + 1)) ≡ saving f i (i + 1) (i + 2)
+seed_saving : (f : ℕ → Stats) (i : ℕ) → saves (f i) (f (i + 1)) ≡ saving f i (i + 1) (i + 2)
 unfolding saving
-seed-saving f i = let e : i + 2 ≡ i + 1 + 1 = omega arith in rw (e, segment_one f i, segment_one f (i + 1))
+seed_saving f i = let e : i + 2 ≡ i + 1 + 1 = omega arith in rw (e, segment_one f i, segment_one f (i + 1))
 
-pairs-short : (adm : ℕ → ℕ → ℕ → Bool) (i k : ℕ) → k ≤ 1 → pairs adm (cuts_from i k) ≡ 0
+pairs_short : (adm : ℕ → ℕ → ℕ → Bool) (i k : ℕ) → k ≤ 1 → pairs adm (cuts_from i k) ≡ 0
 unfolding cuts_from pairs
-pairs-short adm i zero h = refl
-pairs-short adm i (suc zero) h = refl
-pairs-short adm i (suc (suc k)) h = absurd (omega arith)
+pairs_short adm i zero h = refl
+pairs_short adm i (suc zero) h = refl
+pairs_short adm i (suc (suc k)) h = absurd (omega arith)
 
 pairs_suc : (adm : ℕ → ℕ → ℕ → Bool) (i k : ℕ) → pairs adm (cuts_from i (suc (suc k))) ≡ one_if (adm i (suc i) (suc (suc i))) + pairs adm (cuts_from (suc i) (suc k))
 unfolding cuts_from pairs
 pairs_suc adm i zero = refl
 pairs_suc adm i (suc k) = refl
 
-pairs-step : (adm : ℕ → ℕ → ℕ → Bool) (i n : ℕ) → i + 1 < n → pairs adm (cuts_from i (n - i)) ≡ one_if (adm i (i + 1) (i + 2)) + pairs adm (cuts_from (i + 1) (n - (i + 1)))
-pairs-step adm i n h =
+pairs_step : (adm : ℕ → ℕ → ℕ → Bool) (i n : ℕ) → i + 1 < n → pairs adm (cuts_from i (n - i)) ≡ one_if (adm i (i + 1) (i + 2)) + pairs adm (cuts_from (i + 1) (n - (i + 1)))
+pairs_step adm i n h =
     let e : n - i ≡ suc (suc (n - i - 2)) = omega arith in
     let e₁ : n - (i + 1) ≡ suc (n - i - 2) = omega arith in
     let s₂ : i + 2 ≡ suc (suc i) = omega arith in
@@ -69,16 +69,16 @@ pub offering_more : (f : ℕ → Stats) (n i q : ℕ) (w w' : List ℕ) (c : ℕ
     → Offering f n i w q → Offering f n (i + 1) w' c
 offering_more f n i q w w' c h a₀ o =
     let a : Added n q (admitted f i (i + 1) (i + 2)) (code (saving f i (i + 1) (i + 2)) i (i + 1) (i + 2)) w w' c =
-    added_as (seed-admitted f i) (λ _. ap (λ (s : ℕ). code s i (i + 1) (i + 2)) (seed-saving f i)) a₀ in
+    added_as (seed_admitted f i) (λ _. ap (λ (s : ℕ). code s i (i + 1) (i + 2)) (seed_saving f i)) a₀ in
     record {
-      most = omega (arith, o.most, a.count, one-most (admitted f i (i + 1) (i + 2)));
+      most = omega (arith, o.most, a.count, one_most (admitted f i (i + 1) (i + 2)));
       heap = a.heap;
-      count = omega (arith, o.count, a.count, pairs-step (admitted f) i n h);
+      count = omega (arith, o.count, a.count, pairs_step (admitted f) i n h);
       all = λ x l ok. ⊎_elim
           (λ e. rw e (added_new a (rw e at ok)))
           (λ ne. added-kept a _ (o.all x (omega arith) ok))
           (same_or_not x i);
-      only = λ k e. ⊎_elim (λ old. o.only k old) (λ t. (i, omega arith, t.0, t.1)) (added-only a k e);
+      only = λ k e. ⊎_elim (λ old. o.only k old) (λ t. (i, omega arith, t.0, t.1)) (added_only a k e);
     }
 
 -- ---- the state that the loop starts with
@@ -114,7 +114,7 @@ module _ {f : ℕ → Stats} {n q : ℕ} {w : List ℕ} (z : 0 < n) (long : base
 
   seed_links : Linked n (next t) (cuts_from 0 n)
   seed_links = record {
-    rising = cuts-rising 0 n (suc n) (omega arith);
+    rising = cuts_rising 0 n (suc n) (omega arith);
     chain = cuts_chain (next t) n 0 n (omega arith) st.ends st.end;
     only = λ a h. let y = seed a (next t a) refl h in cuts_in 0 n a (omega arith) (omega arith);
   }
@@ -124,7 +124,7 @@ module _ {f : ℕ → Stats} {n q : ℕ} {w : List ℕ} (z : 0 < n) (long : base
     offer = λ k h. let y = o.only k h in record { l = y.0; m = y.0 + 1; r = y.0 + 2; is = y.3; ok = y.2; cuts = record { lm = omega arith; mr = omega arith; rn = y.1 } };
     all = λ a b c m ok.
         let y = cuts_meet 0 n a b c m in
-        let in_n = meet_order (cuts-rising 0 n (suc n) (omega arith)) m in
+        let in_n = meet_order (cuts_rising 0 n (suc n) (omega arith)) m in
         along3 (λ u v x. Has (waiting n w) q (code (saving f u v x) u v x)) refl y.0 y.1
         (o.all a (omega (arith, y.1)) (along3 (λ u v x. admitted f u v x ≡ true) refl (sym y.0) (sym y.1) ok));
   }
@@ -150,7 +150,7 @@ module _ {f : ℕ → Stats} {n q : ℕ} {w : List ℕ} (z : 0 < n) (long : base
     heap = o.heap;
     wait = seed_wait;
     same = rule_starts;
-    count = omega (arith, o.count, pairs-short (admitted f) (n - 1) (n - (n - 1)) (omega arith), rule_offers);
+    count = omega (arith, o.count, pairs_short (admitted f) (n - 1) (n - (n - 1)) (omega arith), rule_offers);
     fuel = omega arith;
   }
 
@@ -159,5 +159,5 @@ module _ (n : ℕ) (w w₁ w₂ : List ℕ) (st : Started n (records n w) (recor
   pub seeded : Seeded (stat_at (records n w₂)) n (records n w₂)
   seeded = record { ends = rw same st.ends; end = rw same st.end; backs = rw same st.backs; stats = λ x. refl }
 
-  pub stats-kept : stat_at (records n w₂) ≡ stat_at (records n w)
-  stats-kept = ap stat_at same ∙ fun_ext st.stats
+  pub stats_kept : stat_at (records n w₂) ≡ stat_at (records n w)
+  stats_kept = ap stat_at same ∙ fun_ext st.stats

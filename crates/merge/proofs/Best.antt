@@ -10,7 +10,7 @@ use lib.Dec.{leb}
 use borrow.Author.Tests.{leb-true, leb-false}
 use Rattle.model.specs.Tests.{pick}
 use Rattle.model.specs.Lists.{Rising, more}
-use Rattle.model.proofs.Rising.{rising-rest}
+use Rattle.model.proofs.Rising.{rising_rest}
 use Rattle.model.proofs.Tests.{never}
 use Rattle.merge.specs.Rule.{Choice, none, pair, better, best}
 use Rattle.merge.proofs.Cuts.{Meet, here, there, meet_cases, meet_order, meet_three}
@@ -41,7 +41,7 @@ module _ (adm : ℕ → ℕ → ℕ → Bool) (sav : ℕ → ℕ → ℕ → ℕ
       ok = e;
       most = λ a b c w ok. ⊎_elim
           (λ q. omega (arith, same_sav q, q.0))
-          (λ w'. (omega (arith, (p.most a b c w' ok).0, leb-true (sav l m r) (sav x y z) t), λ _. omega (arith, (meet_order (rising-rest ri) w').0)))
+          (λ w'. (omega (arith, (p.most a b c w' ok).0, leb-true (sav l m r) (sav x y z) t), λ _. omega (arith, (meet_order (rising_rest ri) w').0)))
           (meet_cases w);
     }
     two {l} {m} {r} e p false t = record {

@@ -68,12 +68,12 @@ in_without {m} (later {x = x} {cs = cs} w) ne = ⊎_elim
     (λ e. rw (without_miss m x cs e) (later (in_without w ne)))
     (same_or_not x m)
 
-pub rising-without : {a b : ℕ} {cs : List ℕ} (m : ℕ) → Rising a b cs → Rising a b (without m cs)
+pub rising_without : {a b : ℕ} {cs : List ℕ} (m : ℕ) → Rising a b cs → Rising a b (without m cs)
 unfolding without
-rising-without m none = none
-rising-without {b = b} m (more {x = x} {xs = cs} p q ri) = ⊎_elim
+rising_without m none = none
+rising_without {b = b} m (more {x = x} {xs = cs} p q ri) = ⊎_elim
     (λ e. rw (without_hit m x cs e) (rising_wider (omega arith) (le_refl b) ri))
-    (λ e. rw (without_miss m x cs e) (more p q (rising-without m ri)))
+    (λ e. rw (without_miss m x cs e) (more p q (rising_without m ri)))
     (same_or_not x m)
 
 pub length_without : {m : ℕ} {cs : List ℕ} → In cs m → length cs ≡ suc (length (without m cs))
@@ -85,10 +85,10 @@ length_without {m} (later {x = x} {cs = cs} w) = ⊎_elim
 
 -- the cuts of the start
 
-pub cuts-rising : (i k b : ℕ) → i + k < b → Rising i b (cuts_from i k)
+pub cuts_rising : (i k b : ℕ) → i + k < b → Rising i b (cuts_from i k)
 unfolding cuts_from
-cuts-rising i zero b h = more {a = i} {b = b} {x = i} (omega arith) (omega arith) none
-cuts-rising i (suc k) b h = more {a = i} {b = b} {x = i} (omega arith) (omega arith) (cuts-rising (suc i) k b (omega arith))
+cuts_rising i zero b h = more {a = i} {b = b} {x = i} (omega arith) (omega arith) none
+cuts_rising i (suc k) b h = more {a = i} {b = b} {x = i} (omega arith) (omega arith) (cuts_rising (suc i) k b (omega arith))
 
 pub cuts-length : (i k : ℕ) → length (cuts_from i k) ≡ suc k
 unfolding cuts_from

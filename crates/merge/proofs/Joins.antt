@@ -11,7 +11,7 @@ use native.Mathlib.Omega.{arith}
 use lib.ListN.{length}
 use Rattle.model.specs.Lists.{Rising, more}
 use Rattle.merge.specs.Rule.{Choice, none, pair, without, cuts_from, counted, best, pairs_with, after_joins, later_offers, merged}
-use Rattle.merge.proofs.Cuts.{Meet, meet_cases, meet_order, meet_middle, meet_three, without_hit, without_miss, rising-without, length_without, cuts-rising}
+use Rattle.merge.proofs.Cuts.{Meet, meet_cases, meet_order, meet_middle, meet_three, without_hit, without_miss, rising_without, length_without, cuts_rising}
 use Rattle.merge.proofs.Best.{Best, chosen}
 
 -- what a choice is, with its equation
@@ -53,7 +53,7 @@ module _ (adm : ℕ → ℕ → ℕ → Bool) (sav : ℕ → ℕ → ℕ → ℕ
   joins_keep P f zero cs ri h = (ri, h)
   joins_keep P f (suc k) cs ri h = by_choice (best adm sav cs)
       (λ e. rw (join_end (suc k) cs e) (ri, h))
-      (λ l m r e. rw (join_step k cs l m r e) (joins_keep P f k (without m cs) (rising-without m ri) (f cs l m r ri (best_meets cs l m r ri e).meets h)))
+      (λ l m r e. rw (join_step k cs l m r e) (joins_keep P f k (without m cs) (rising_without m ri) (f cs l m r ri (best_meets cs l m r ri e).meets h)))
 
   -- as many joins as there are cuts are enough
   joins_enough : {a b : ℕ} (k : ℕ) (cs : List ℕ) → Rising a b cs → length cs ≤ k + 2 → best adm sav (after_joins adm sav k cs) ≡ none
@@ -61,19 +61,19 @@ module _ (adm : ℕ → ℕ → ℕ → Bool) (sav : ℕ → ℕ → ℕ → ℕ
   joins_enough zero cs ri h = by_choice (best adm sav cs) (λ e. e) (λ l m r e. absurd (omega (arith, meet_three (best_meets cs l m r ri e).meets)))
   joins_enough (suc k) cs ri h = by_choice (best adm sav cs)
       (λ e. rw (join_end (suc k) cs e) e)
-      (λ l m r e. rw (join_step k cs l m r e) (joins_enough k (without m cs) (rising-without m ri) (omega (arith, length_without (meet_middle (best_meets cs l m r ri e).meets)))))
+      (λ l m r e. rw (join_step k cs l m r e) (joins_enough k (without m cs) (rising_without m ri) (omega (arith, length_without (meet_middle (best_meets cs l m r ri e).meets)))))
 
   pub merged-best : {a b : ℕ} (cs : List ℕ) → Rising a b cs → best adm sav (merged adm sav cs) ≡ none
   unfolding merged
   merged-best cs ri = joins_enough (length cs) cs ri (omega arith)
 
-  pub merged-rising : {a b : ℕ} (cs : List ℕ) → Rising a b cs → Rising a b (merged adm sav cs)
+  pub merged_rising : {a b : ℕ} (cs : List ℕ) → Rising a b cs → Rising a b (merged adm sav cs)
   unfolding merged
-  merged-rising cs ri = (joins_keep (λ _. ℕ) (λ cs l m r ri w h. h) (length cs) cs ri 0).0
+  merged_rising cs ri = (joins_keep (λ _. ℕ) (λ cs l m r ri w h. h) (length cs) cs ri 0).0
 
   -- when merging ends, no neighbouring pair is admitted
-  pub merged-ends : {a b : ℕ} (cs : List ℕ) → Rising a b cs → (l m r : ℕ) → Meet (merged adm sav cs) l m r → adm l m r ≡ false
-  merged-ends cs ri = rw (merged-best cs ri) at (chosen adm sav (merged adm sav cs) (merged-rising cs ri))
+  pub merged_ends : {a b : ℕ} (cs : List ℕ) → Rising a b cs → (l m r : ℕ) → Meet (merged adm sav cs) l m r → adm l m r ≡ false
+  merged_ends cs ri = rw (merged-best cs ri) at (chosen adm sav (merged adm sav cs) (merged_rising cs ri))
 
 -- ---- what the segments hold
 
@@ -113,17 +113,17 @@ module _ {b : ℕ} (c : ℕ → ℕ → ℕ) (ad : Adds c b) where
       (joins_keep adm sav (λ ds. counted c ds ≡ counted c cs) (λ ds l m r rd w e. counted-without ds l m r rd w ∙ e) k cs ri refl).1
 
   -- seeds hold together what lies between the first cut and the last
-  counted-seeds : (i k : ℕ) → i + suc k < b → counted c (cuts_from i (suc k)) ≡ c i (i + suc k)
+  counted_seeds : (i k : ℕ) → i + suc k < b → counted c (cuts_from i (suc k)) ≡ c i (i + suc k)
   unfolding cuts_from
-  counted-seeds i zero h =
+  counted_seeds i zero h =
       let e : suc i ≡ i + 1 = omega arith in
       omega (arith, counted_two c i (suc i) [], counted_none c (suc i), ap (c i) e)
-  counted-seeds i (suc k) h =
+  counted_seeds i (suc k) h =
       let e : suc i + suc k ≡ i + suc (suc k) = omega arith in
-      omega (arith, counted_two c i (suc i) (cuts_from (suc (suc i)) k), counted-seeds (suc i) k (omega arith), ap (c (suc i)) e, ad i (suc i) (i + suc (suc k)) (omega arith) (omega arith) h)
+      omega (arith, counted_two c i (suc i) (cuts_from (suc (suc i)) k), counted_seeds (suc i) k (omega arith), ap (c (suc i)) e, ad i (suc i) (i + suc (suc k)) (omega arith) (omega arith) h)
 
 -- what the seeds hold together, the segments hold, after every join
 pub counted-all : (n : ℕ) (c : ℕ → ℕ → ℕ) → Adds c (suc n) → (adm : ℕ → ℕ → ℕ → Bool) (sav : ℕ → ℕ → ℕ → ℕ) → 0 < n → (k : ℕ) → counted c (after_joins adm sav k (cuts_from 0 n)) ≡ c 0 n
 counted-all zero c ad adm sav z k = absurd (omega arith)
 counted-all (suc n) c ad adm sav z k =
-    counted-kept c ad adm sav k (cuts_from 0 (suc n)) (cuts-rising 0 (suc n) (suc (suc n)) (omega arith)) ∙ counted-seeds c ad 0 n (omega arith) ∙ ap (c 0) (zero-add (suc n))
+    counted-kept c ad adm sav k (cuts_from 0 (suc n)) (cuts_rising 0 (suc n) (suc (suc n)) (omega arith)) ∙ counted_seeds c ad 0 n (omega arith) ∙ ap (c 0) (zero-add (suc n))

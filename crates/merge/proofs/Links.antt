@@ -10,7 +10,7 @@ use Rattle.model.specs.Lists.{Rising, more}
 use Rattle.model.proofs.Tests.{same_or_not}
 use Rattle.links.specs.Links.{Chain, end, link}
 use Rattle.merge.specs.Rule.{without}
-use Rattle.merge.proofs.Cuts.{Meet, here, there, In, first, later, in_some, meet_cases, meet_order, meet_left, meet_three, without_hit, without_miss, in_without, rising-without}
+use Rattle.merge.proofs.Cuts.{Meet, here, there, In, first, later, in_some, meet_cases, meet_order, meet_left, meet_three, without_hit, without_miss, in_without, rising_without}
 
 pub record Linked (n : ℕ) (nx : ℕ → ℕ) (cs : List ℕ) : Type 0 where
   pub rising : Rising 0 (suc n) cs
@@ -25,14 +25,14 @@ chain_next (link p (link q ch)) here = (p, q)
 chain_next (link p ch) (there w) = chain_next ch w
 
 -- a cut with a cut after it
-next-after : {nx : ℕ → ℕ} {n o a : ℕ} {cs : List ℕ} → Rising o (suc n) cs → Chain nx cs → In cs a → 0 < nx a → (a < nx a) × (nx a ≤ n)
-next-after {nx = nx} {n = n} {o = o} {a = a} ri (end e) (later w) h = elim w [ ]
-next-after ri (end e) first h = absurd (omega arith)
-next-after (more p q (more p' q' ri)) (link e ch) first h = omega arith
-next-after (more p q ri) (link e ch) (later w) h = next-after ri ch w h
+next_after_lem : {nx : ℕ → ℕ} {n o a : ℕ} {cs : List ℕ} → Rising o (suc n) cs → Chain nx cs → In cs a → 0 < nx a → (a < nx a) × (nx a ≤ n)
+next_after_lem {nx = nx} {n = n} {o = o} {a = a} ri (end e) (later w) h = elim w [ ]
+next_after_lem ri (end e) first h = absurd (omega arith)
+next_after_lem (more p q (more p' q' ri)) (link e ch) first h = omega arith
+next_after_lem (more p q ri) (link e ch) (later w) h = next_after_lem ri ch w h
 
-pub next-order : {n : ℕ} {nx : ℕ → ℕ} {cs : List ℕ} → Linked n nx cs → (a : ℕ) → 0 < nx a → (a < nx a) × (nx a ≤ n)
-next-order k a h = next-after k.rising k.chain (k.only a h) h
+pub next_order : {n : ℕ} {nx : ℕ → ℕ} {cs : List ℕ} → Linked n nx cs → (a : ℕ) → 0 < nx a → (a < nx a) × (nx a ≤ n)
+next_order k a h = next_after_lem k.rising k.chain (k.only a h) h
 
 chain_meets : {nx : ℕ → ℕ} {cs : List ℕ} {a b c : ℕ} → Chain nx cs → In cs a → nx a ≡ b → nx b ≡ c → 0 < b → 0 < c → Meet cs a b c
 chain_meets (end e) first p q zb zc = absurd (omega arith)
@@ -48,14 +48,14 @@ pub next_meets : {n : ℕ} {nx : ℕ → ℕ} {cs : List ℕ} {a b c : ℕ} → 
 next_meets {a = a} k p q zb zc = chain_meets k.chain (k.only a (omega arith)) p q zb zc
 
 -- a cut above 0 has a cut before it
-cut-before : {nx : ℕ → ℕ} {o a : ℕ} {cs : List ℕ} → Chain nx (o ∷ cs) → In (o ∷ cs) a → (o ≡ a → ⊥) → (p : ℕ) × (nx p ≡ a)
-cut-before ch first ne = absurd (ne refl)
-cut-before (end e) (later w) ne = absurd (omega (arith, in_some w))
-cut-before {a = a} (link {x = x} {y = y} e ch) (later w) ne = ⊎_elim (λ q. (x, e ∙ q)) (λ ny. cut-before ch w ny) (same_or_not y a)
+cut_before : {nx : ℕ → ℕ} {o a : ℕ} {cs : List ℕ} → Chain nx (o ∷ cs) → In (o ∷ cs) a → (o ≡ a → ⊥) → (p : ℕ) × (nx p ≡ a)
+cut_before ch first ne = absurd (ne refl)
+cut_before (end e) (later w) ne = absurd (omega (arith, in_some w))
+cut_before {a = a} (link {x = x} {y = y} e ch) (later w) ne = ⊎_elim (λ q. (x, e ∙ q)) (λ ny. cut_before ch w ny) (same_or_not y a)
 
 -- and a table of the cuts before says which
 pub linked-before : {n : ℕ} {nx : ℕ → ℕ} {cs : List ℕ} (pv : ℕ → ℕ) → Linked n nx (0 ∷ cs) → ((a b : ℕ) → nx a ≡ b → 0 < b → pv b ≡ a) → (l : ℕ) → In (0 ∷ cs) l → 0 < l → nx (pv l) ≡ l
-linked-before pv k back l w z = let p = cut-before k.chain w (λ e. omega arith) in rw (back p.0 l p.1 z) p.1
+linked-before pv k back l w z = let p = cut_before k.chain w (λ e. omega arith) in rw (back p.0 l p.1 z) p.1
 
 -- ---- a join
 
@@ -88,7 +88,7 @@ module _ {nx nx' : ℕ → ℕ} {l m r : ℕ} (u : Joined nx nx' l m r) where
 
   pub linked_join : {n : ℕ} {cs : List ℕ} → Linked n nx cs → Meet cs l m r → Linked n nx' (without m cs)
   linked_join {cs = cs} k w = record {
-    rising = rising-without m k.rising;
+    rising = rising_without m k.rising;
     chain = chain_without cs k.rising k.chain w;
     only = λ a p. ⊎_elim
         (λ e. absurd (omega (arith, ap nx' e, u.gone)))

@@ -11,7 +11,7 @@ use Rattle.model.proofs.Tests.{either, never}
 use Rattle.stats.specs.declared.Stats.{Stats}
 use Rattle.queue.specs.Keys.{key, Heap}
 use Rattle.queue.specs.Steps.{Popped}
-use Rattle.queue.proofs.Keys.{occ-some}
+use Rattle.queue.proofs.Keys.{occ_some}
 use Rattle.links.specs.declared.Pair.{Pair}
 use Rattle.links.specs.Links.{Cuts}
 use Rattle.links.specs.Keys.{code, pair_of}
@@ -22,7 +22,7 @@ use Rattle.merge.specs.Steps.{Ready, Taken, cuts_of, offers_of, Merged}
 use Rattle.merge.proofs.Joins.{join_end, later_end}
 use Rattle.merge.proofs.Queue.{Offer, best_none}
 use Rattle.merge.proofs.Adds.{Has, popped_in}
-use Rattle.merge.proofs.State.{State, live-is, live_true, state_most, ready}
+use Rattle.merge.proofs.State.{State, live_is, live_true, state_most, ready}
 use Rattle.merge.proofs.Turn.{turn_stale, turn_live}
 
 -- what an offer's number says is what it was made of
@@ -59,7 +59,7 @@ module _ {f : ℕ → Stats} {n q taken k : ℕ} (w w₁ : List ℕ) (n16 : n < 
           omega (arith, state_most s seeds),
           (
             p.heap,
-            λ t. let y = live-is (records n w) offer.l offer.m offer.r t in ready s seeds offer.l offer.m offer.r cu y.0 y.1,
+            λ t. let y = live_is (records n w) offer.l offer.m offer.r t in ready s seeds offer.l offer.m offer.r cu y.0 y.1,
           ),
         ),
       )
@@ -69,7 +69,7 @@ module _ {f : ℕ → Stats} {n q taken k : ℕ} (w w₁ : List ℕ) (n16 : n < 
       let b : Taken n (q - 1) offer.l offer.m offer.r w₁ w₂ c = rw (e ∙ pair_is_lem) at a in
       ⊎_elim
       (λ t.
-      let y = live-is (records n w) offer.l offer.m offer.r (rw same at t) in
+      let y = live_is (records n w) offer.l offer.m offer.r (rw same at t) in
       turn_live n16 seeds s z p offer y.0 y.1 same refl (b.live t))
       (λ t.
       let r = b.stale t in
@@ -80,15 +80,15 @@ module _ {f : ℕ → Stats} {n q taken k : ℕ} (w w₁ : List ℕ) (n16 : n < 
 -- no offer waits: the plain rule has ended too
 module _ {f : ℕ → Stats} {n : ℕ} {t h : List ℕ} {q taken : ℕ} (z : q ≤ 0) (s : State f n t h q taken) where
   last : best (admitted f) (saving f) s.cs ≡ none
-  last = best_none n (admitted f) (saving f) (Has h q) s.links s.wait (λ k e. let r = occ-some (key h) q k e in omega (arith, r.1))
+  last = best_none n (admitted f) (saving f) (Has h q) s.links s.wait (λ k e. let r = occ_some (key h) q k e in omega (arith, r.1))
 
   cuts_are : s.cs ≡ cuts_of f n
   unfolding cuts_of
   cuts_are = sym (join_end (admitted f) (saving f) s.turns s.cs last) ∙ s.same
 
-  pub end-count : taken ≡ offers_of f n
+  pub end_count : taken ≡ offers_of f n
   unfolding offers_of
-  end-count = omega (arith, s.count, later_end (admitted f) (saving f) s.turns s.cs last)
+  end_count = omega (arith, s.count, later_end (admitted f) (saving f) s.turns s.cs last)
 
-  pub end-merged : Merged f n t
-  end-merged = record { rest = s.tail; first = sym cuts_are ∙ s.first; cuts = rw cuts_are at s.links.chain; stats = s.stats }
+  pub end_merged : Merged f n t
+  end_merged = record { rest = s.tail; first = sym cuts_are ∙ s.first; cuts = rw cuts_are at s.links.chain; stats = s.stats }

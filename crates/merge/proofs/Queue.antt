@@ -21,8 +21,8 @@ pub along3 : (P : ℕ → ℕ → ℕ → Type 0) {a b c x y z : ℕ} → a ≡ 
 along3 P p q r h = rw (p, q, r) h
 
 -- the greater key saves more, or as much from further left
-key-order : (n : ℕ) {l m r a b c : ℕ} (s t : ℕ) → n < 65536 → Cuts n l m r → Cuts n a b c → code t a b c ≤ code s l m r → (t ≤ s) × (s ≤ t → l ≤ a)
-key-order n s t h p q le = omega arith
+key_order : (n : ℕ) {l m r a b c : ℕ} (s t : ℕ) → n < 65536 → Cuts n l m r → Cuts n a b c → code t a b c ≤ code s l m r → (t ≤ s) × (s ≤ t → l ≤ a)
+key_order n s t h p q le = omega arith
 
 digits : (s l m r t a b c : ℕ) → l < 65536 → m < 65536 → r < 65536 → a < 65536 → b < 65536 → c < 65536 → code t a b c ≡ code s l m r → (a ≡ l) × (b ≡ m) × (c ≡ r)
 digits s l m r t a b c hl hm hr ha hb hc e = let st : s ≡ t = omega arith in omega arith
@@ -60,8 +60,8 @@ module _ (n : ℕ) (adm : ℕ → ℕ → ℕ → Bool) (sav : ℕ → ℕ → �
       let rc : r ≡ c = sym t.1 ∙ ap nx mb ∙ t'.1 in
       cc
 
-  best-is : {nx : ℕ → ℕ} {cs : List ℕ} (l m r : ℕ) → Linked n nx cs → Best adm sav cs l m r → best adm sav cs ≡ pair l m r
-  best-is {nx} {cs} l m r k p = by_choice (best adm sav cs)
+  best_is : {nx : ℕ → ℕ} {cs : List ℕ} (l m r : ℕ) → Linked n nx cs → Best adm sav cs l m r → best adm sav cs ≡ pair l m r
+  best_is {nx} {cs} l m r k p = by_choice (best adm sav cs)
       (λ e. never p.ok ((rw e at (chosen adm sav cs k.rising)) l m r p.meets))
       (λ a b c e. e ∙ best-one k p (best_meets adm sav cs a b c k.rising e))
 
@@ -75,17 +75,17 @@ module _ (n : ℕ) (adm : ℕ → ℕ → ℕ → Bool) (sav : ℕ → ℕ → �
     pub top_is_best : ((x : ℕ) → has x → x ≤ k) → nx o.l ≡ o.m → nx o.m ≡ o.r → best adm sav cs ≡ pair o.l o.m o.r
     top_is_best big p q =
         let cu = o.cuts in
-        best-is o.l o.m o.r li (record {
+        best_is o.l o.m o.r li (record {
           meets = next_meets li p q (omega (arith, cu.lm)) (omega (arith, cu.mr));
           ok = o.ok;
           most = λ a b c w ok.
               let h : code (sav a b c) a b c ≤ code (sav o.l o.m o.r) o.l o.m o.r = rw o.is at (big _ (g.all a b c w ok)) in
-              key-order n (sav o.l o.m o.r) (sav a b c) n16 cu (meet_cuts li.rising w) h;
+              key_order n (sav o.l o.m o.r) (sav a b c) n16 cu (meet_cuts li.rising w) h;
         })
 
     -- an admitted pair with that key is the offer's
-    same-pair : (a b c : ℕ) → Cuts n a b c → code (sav a b c) a b c ≡ k → (a ≡ o.l) × (b ≡ o.m) × (c ≡ o.r)
-    same-pair a b c cu e = key-same n (sav o.l o.m o.r) (sav a b c) n16 o.cuts cu (e ∙ o.is)
+    same_pair : (a b c : ℕ) → Cuts n a b c → code (sav a b c) a b c ≡ k → (a ≡ o.l) × (b ≡ o.m) × (c ≡ o.r)
+    same_pair a b c cu e = key-same n (sav o.l o.m o.r) (sav a b c) n16 o.cuts cu (e ∙ o.is)
 
     -- a stale offer is passed over: without it, the queue waits for the same pairs
     pub stale : (has' : ℕ → Type 0) → ((x : ℕ) → has' x → has x) → ((x : ℕ) → has x → (x ≡ k → ⊥) → has' x)
@@ -94,7 +94,7 @@ module _ (n : ℕ) (adm : ℕ → ℕ → ℕ → Bool) (sav : ℕ → ℕ → �
       offer = λ x h. g.offer x (old x h);
       all = λ a b c w ok. kept _ (g.all a b c w ok) (λ e.
           let t = chain_next li.chain w in
-          let same = same-pair a b c (meet_cuts li.rising w) e in
+          let same = same_pair a b c (meet_cuts li.rising w) e in
           st (ap nx (sym same.0) ∙ t.0 ∙ same.1) (ap nx (sym same.1) ∙ t.1 ∙ same.2));
     }
 
@@ -129,7 +129,7 @@ module _ (n : ℕ) (adm : ℕ → ℕ → ℕ → Bool) (sav : ℕ → ℕ → �
               let ea : nx a ≡ b = sym (u.else a na (λ e. omega (arith, ap nx' e, u.gone, t.0, or.1))) ∙ t.0 in
               let eb : nx b ≡ c = sym (u.else b nb (λ e. omega (arith, ap nx' e, u.gone, t.1, or.2))) ∙ t.1 in
               let w'' : Meet cs a b c = next_meets li ea eb (omega (arith, or.1)) (omega (arith, or.2)) in
-              kept _ (g.all a b c w'' ok) (λ e. na (same-pair a b c (meet_cuts li.rising w'') e).0))
+              kept _ (g.all a b c w'' ok) (λ e. na (same_pair a b c (meet_cuts li.rising w'') e).0))
               (same_or_not b o.l))
               (same_or_not a o.l);
         }

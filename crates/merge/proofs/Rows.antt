@@ -11,7 +11,7 @@ use Rattle.model.proofs.Tests.{same_or_not}
 use Rattle.model.proofs.Rising.{rising_split}
 use Rattle.stats.specs.declared.Stats.{Stats}
 use Rattle.stats.specs.Statistics.{stats_of}
-use Rattle.stats.proofs.Joining.{stats-append, stats-sound, stats_neighbours}
+use Rattle.stats.proofs.Joining.{stats_append, stats_sound, stats_neighbours}
 use Rattle.links.specs.Pairs.{total_from, segment_of, admitted, saving, Seeds, rows_admitted, rows_saving}
 use Rattle.merge.specs.Rule.{merged, offers, cuts_from}
 use Rattle.merge.specs.Steps.{cuts_of, offers_of}
@@ -21,20 +21,20 @@ use Rattle.merge.proofs.Same.{merged-same, offers-same}
 module _ (n : ℕ) (rows : ℕ → ℕ → List ℕ) (some : (l m : ℕ) → l < m → m ≤ n → 1 ≤ length (rows l m))
     (cut : (l m r : ℕ) → l < m → m < r → r ≤ n → rows l r ≡ rows l m ++ rows m r)
     (f : ℕ → Stats) (seeds : (i : ℕ) → i < n → f i ≡ stats_of (rows i (suc i))) where
-  total-rows : (l k : ℕ) → l + k < n → total_from f l k ≡ stats_of (rows l (suc (l + k)))
+  total_rows : (l k : ℕ) → l + k < n → total_from f l k ≡ stats_of (rows l (suc (l + k)))
   unfolding total_from
-  total-rows l zero h = let e : suc l ≡ suc (l + 0) = omega arith in rw (← e) (seeds l (omega arith))
-  total-rows l (suc k) h =
+  total_rows l zero h = let e : suc l ≡ suc (l + 0) = omega arith in rw (← e) (seeds l (omega arith))
+  total_rows l (suc k) h =
       let e : suc (l + suc k) ≡ suc (suc (l + k)) = omega arith in
       let parts = cut l (suc (l + k)) (suc (suc (l + k))) (omega arith) (omega arith) (omega arith) in
-      rw (e, total-rows l k (omega arith), seeds (suc (l + k)) (omega arith), parts)
-      (sym (stats-append (rows l (suc (l + k))) (rows (suc (l + k)) (suc (suc (l + k)))) (some l (suc (l + k)) (omega arith) (omega arith)) (some (suc (l + k)) (suc (suc (l + k))) (omega arith) (omega arith))))
+      rw (e, total_rows l k (omega arith), seeds (suc (l + k)) (omega arith), parts)
+      (sym (stats_append (rows l (suc (l + k))) (rows (suc (l + k)) (suc (suc (l + k)))) (some l (suc (l + k)) (omega arith) (omega arith)) (some (suc (l + k)) (suc (suc (l + k))) (omega arith) (omega arith))))
 
   pub segment_rows : (l m : ℕ) → l < m → m ≤ n → segment_of f l m ≡ stats_of (rows l m)
   unfolding segment_of
   segment_rows l m p q =
       let e : suc (l + (m - suc l)) ≡ m = omega arith in
-      total-rows l (m - suc l) (omega arith) ∙ rw e
+      total_rows l (m - suc l) (omega arith) ∙ rw e
 
   -- so the plain rule over statistics is the plain rule over rows
   agree : (l m r : ℕ) → l < m → m < r → r ≤ n → (admitted f l m r ≡ rows_admitted rows l m r) × (saving f l m r ≡ rows_saving rows l m r)
@@ -44,13 +44,13 @@ module _ (n : ℕ) (rows : ℕ → ℕ → List ℕ) (some : (l m : ℕ) → l <
       let b = segment_rows m r q h in
       (rw (a, b), rw (a, b))
 
-  pub cuts-rows : cuts_of f n ≡ merged (rows_admitted rows) (rows_saving rows) (cuts_from 0 n)
+  pub cuts_rows : cuts_of f n ≡ merged (rows_admitted rows) (rows_saving rows) (cuts_from 0 n)
   unfolding cuts_of
-  cuts-rows = merged-same n (admitted f) (rows_admitted rows) (saving f) (rows_saving rows) agree
+  cuts_rows = merged-same n (admitted f) (rows_admitted rows) (saving f) (rows_saving rows) agree
 
-  pub offers-rows : offers_of f n ≡ offers (rows_admitted rows) (rows_saving rows) (cuts_from 0 n)
+  pub offers_rows : offers_of f n ≡ offers (rows_admitted rows) (rows_saving rows) (cuts_from 0 n)
   unfolding offers_of
-  offers-rows = offers-same n (admitted f) (rows_admitted rows) (saving f) (rows_saving rows) agree
+  offers_rows = offers-same n (admitted f) (rows_admitted rows) (saving f) (rows_saving rows) agree
 
   -- rows that rise make seeds that can be merged
   module _ {b : ℕ} (fits : b ≤ 4294967295) (rising : Rising 0 b (rows 0 n)) where
@@ -68,11 +68,11 @@ module _ (n : ℕ) (rows : ℕ → ℕ → List ℕ) (some : (l m : ℕ) → l <
         (λ ne. let y = rising_split (rows l r) (rows r n) o.1 (rw (cut l r n p (omega arith) (omega arith)) at o.2) in (o.0, y.mid, y.low, y.high, y.front))
         (same_or_not r n)
 
-    pub rows-seeds : Seeds f n
-    rows-seeds = record {
+    pub rows_seeds : Seeds f n
+    rows_seeds = record {
       sound = λ i h.
           let o = window i (suc i) (omega arith) (omega arith) in
-          rw (seeds i h) (stats-sound o.4 (some i (suc i) (omega arith) (omega arith)) (omega (arith, o.3)));
+          rw (seeds i h) (stats_sound o.4 (some i (suc i) (omega arith) (omega arith)) (omega (arith, o.3)));
       apart = λ i h.
           let o = window i (suc (suc i)) (omega arith) (omega arith) in
           let y = rising_split (rows i (suc i)) (rows (suc i) (suc (suc i))) o.2 (rw (cut i (suc i) (suc (suc i)) (omega arith) (omega arith) (omega arith)) at o.4) in

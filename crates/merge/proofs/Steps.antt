@@ -11,9 +11,9 @@ use Rattle.stats.specs.Statistics.{Neighbours, joined}
 use Rattle.queue.specs.Keys.{Heap}
 use Rattle.links.specs.Links.{Cuts}
 use Rattle.links.specs.Tables.{base, records, waiting, field, next, prev, stat_at, linked}
-use Rattle.links.proofs.Tables.{records-length, records-field, read_pair, linked-records, linked-waiting, linked-next, linked-prev, linked_stat, linked-stats}
+use Rattle.links.proofs.Tables.{records-length, records-field, read_pair, linked-records, linked-waiting, linked-next, linked-prev, linked_stat, linked_stats}
 use Rattle.merge.specs.Steps.{Added, joint_of, Left, Right, Ready}
-use Rattle.merge.proofs.Offers.{one-most}
+use Rattle.merge.proofs.Offers.{one_most}
 
 -- what the offer of the segment before l, read at p, asks
 pub left_reads : (n q l r p : ℕ) (w : List ℕ) → (l < r) × (r ≤ n) × (n < 65536) → base n + (q * 2 + 1) < length w → Heap (waiting n w) q → Left (records n w) l (stat_at (records n w) l)
@@ -64,14 +64,14 @@ module _ (n q l m r : ℕ) (w w₁ : List ℕ) (rd : Ready n (records n w) l m r
       let o = rd.left z in
       let ep : prev t₁ l ≡ prev (records n w) l = linked-prev l m r s (records n w) rd.cuts.lm rd.cuts.mr long l (λ e. omega (arith, lr)) in
       let es : stat_at t₁ (prev (records n w) l) ≡ stat_at (records n w) (prev (records n w) l) =
-      linked-stats l m r s (records n w) rd.cuts.lm rd.cuts.mr long (prev (records n w) l) (λ e. omega (arith, o.before)) in
+      linked_stats l m r s (records n w) rd.cuts.lm rd.cuts.mr long (prev (records n w) l) (λ e. omega (arith, o.before)) in
       record { before = omega (arith, o.before); fits = rw (stat_l, ep, es) o.fits }
 
   right₁ : 0 < next t₁ r → Right n t₁ r (stat_at t₁ l)
   right₁ z =
       let en : next t₁ r ≡ next (records n w) r = linked-next l m r s (records n w) rd.cuts.lm rd.cuts.mr long r (λ e. omega (arith, lr)) (λ e. omega (arith, rd.cuts.mr)) in
       let o = rd.right (omega arith) in
-      let es : stat_at t₁ r ≡ stat_at (records n w) r = linked-stats l m r s (records n w) rd.cuts.lm rd.cuts.mr long r (λ e. omega (arith, lr)) in
+      let es : stat_at t₁ r ≡ stat_at (records n w) r = linked_stats l m r s (records n w) rd.cuts.lm rd.cuts.mr long r (λ e. omega (arith, lr)) in
       record { after = omega (arith, o.after); inside = omega (arith, o.inside); fits = rw (stat_l, es) o.fits }
 
   pub left_asks : Heap (waiting n w) q
@@ -82,4 +82,4 @@ module _ (n q l m r : ℕ) (w w₁ : List ℕ) (rd : Ready n (records n w) l m r
       → ((l < r) × (r ≤ n) × (n < 65536)) × ((base n + (c * 2 + 1) < length w₂) × (Heap (waiting n w₂) c × (0 < next (records n w₂) r → Right n (records n w₂) r (stat_at (records n w₂) l))))
   right_asks t x w₂ c a same₂ =
       let e : records n w₂ ≡ t₁ = a.tables ∙ k.tables in
-      ((lr, rd.cuts.rn, n16), (omega (arith, a.count, one-most t), (a.heap, rw e right₁)))
+      ((lr, rd.cuts.rn, n16), (omega (arith, a.count, one_most t), (a.heap, rw e right₁)))

@@ -16,16 +16,16 @@ use Rattle.queue.specs.Steps.{Popped}
 use Rattle.links.specs.Keys.{code}
 use Rattle.links.specs.Pairs.{segment_of, admitted, saving, Seeds}
 use Rattle.links.specs.Tables.{records, waiting, next, prev, stat_at, linked}
-use Rattle.links.proofs.Tables.{linked-length, linked-left, linked_gone, linked-next, linked-right, linked-prev, linked_stat, linked-stats}
+use Rattle.links.proofs.Tables.{linked-length, linked_left, linked_gone, linked-next, linked_right, linked-prev, linked_stat, linked_stats}
 use Rattle.merge.specs.Rule.{pair, one_if, without, best, pairs_with, after_joins, later_offers}
 use Rattle.merge.specs.Steps.{Added, joint_of, left_is, left_key, right_is, right_key, Joining}
 use Rattle.merge.proofs.Cuts.{Meet, In, meet_left, meet_middle, meet_three, in_without, length_without, without_miss}
 use Rattle.merge.proofs.Joins.{join_step, later_step}
-use Rattle.merge.proofs.Links.{Linked, Joined, next-order, linked-before, linked_join}
+use Rattle.merge.proofs.Links.{Linked, Joined, next_order, linked-before, linked_join}
 use Rattle.merge.proofs.Around.{around}
 use Rattle.merge.proofs.Queue.{Offer, top_is_best, stale, after_join}
-use Rattle.merge.proofs.Adds.{Has, added_as, added-kept, added_new, added-only, popped_top, popped_old, popped_kept}
-use Rattle.merge.proofs.State.{State, pair_here, pair-stats}
+use Rattle.merge.proofs.Adds.{Has, added_as, added-kept, added_new, added_only, popped_top, popped_old, popped_kept}
+use Rattle.merge.proofs.State.{State, pair_here, pair_stats}
 
 module _ {f : ℕ → Stats} {n : ℕ} {t h : List ℕ} {q taken k : ℕ} (n16 : n < 65536) (seeds : Seeds f n) (s : State f n t h q taken) (z : 0 < q) {h₁ : List ℕ} (p : Popped h q k h₁)
     (o : Offer n (admitted f) (saving f) k) where
@@ -79,7 +79,7 @@ module _ {f : ℕ → Stats} {n : ℕ} {t h : List ℕ} {q taken k : ℕ} (n16 :
 
     joins : Joined (next t) (next t') l m r
     joins = record {
-      left = linked-left l m r (joint_of t l m) t lm mr long;
+      left = linked_left l m r (joint_of t l m) t lm mr long;
       gone = linked_gone l m r (joint_of t l m) t lm mr long;
       else = linked-next l m r (joint_of t l m) t lm mr long;
     }
@@ -96,7 +96,7 @@ module _ {f : ℕ → Stats} {n : ℕ} {t h : List ℕ} {q taken k : ℕ} (n16 :
 
     back' : (a b : ℕ) → next t' a ≡ b → 0 < b → prev t' b ≡ a
     back' a b e zb = ⊎_elim
-        (λ x. ap (prev t') (sym e ∙ ap (next t') x ∙ joins.left) ∙ linked-right l m r (joint_of t l m) t lm mr long ∙ sym x)
+        (λ x. ap (prev t') (sym e ∙ ap (next t') x ∙ joins.left) ∙ linked_right l m r (joint_of t l m) t lm mr long ∙ sym x)
         (λ nl.
         let ea : next t a ≡ b = sym (next_else a nl (omega arith)) ∙ e in
         let nm : a ≡ m → ⊥ = λ x. omega (arith, ap (next t') x, joins.gone) in
@@ -104,19 +104,19 @@ module _ {f : ℕ → Stats} {n : ℕ} {t h : List ℕ} {q taken k : ℕ} (n16 :
         (same_or_not a l)
 
     stat_joined : stat_at t' l ≡ segment_of f l r
-    stat_joined = linked_stat l m r (joint_of t l m) t lm mr long ∙ pair-stats s seeds l m r o.cuts p₁ p₂
+    stat_joined = linked_stat l m r (joint_of t l m) t lm mr long ∙ pair_stats s seeds l m r o.cuts p₁ p₂
 
     stats' : (a b : ℕ) → next t' a ≡ b → 0 < b → stat_at t' a ≡ segment_of f a b
     stats' a b e zb = ⊎_elim
         (λ x. let eb : b ≡ r = sym e ∙ ap (next t') x ∙ joins.left in rw (x, eb) stat_joined)
-        (λ nl. linked-stats l m r (joint_of t l m) t lm mr long a nl ∙ s.stats a b (sym (next_else a nl (omega arith)) ∙ e) zb)
+        (λ nl. linked_stats l m r (joint_of t l m) t lm mr long a nl ∙ s.stats a b (sym (next_else a nl (omega arith)) ∙ e) zb)
         (same_or_not a l)
 
     first' : without m s.cs ≡ 0 ∷ without m s.tail
     first' = ap (without m) s.first ∙ without_miss m 0 s.tail (λ e. omega (arith, lm))
 
-    linked-first : Linked n (next t') (0 ∷ without m s.tail)
-    linked-first = rw first' at links'
+    linked_first : Linked n (next t') (0 ∷ without m s.tail)
+    linked_first = rw first' at links'
 
     in_first : In (0 ∷ without m s.tail) l
     in_first = rw first' at (in_without {m = m} (meet_left here) (λ e. omega (arith, lm)))
@@ -130,10 +130,10 @@ module _ {f : ℕ → Stats} {n : ℕ} {t h : List ℕ} {q taken k : ℕ} (n16 :
     Z = next t' r
 
     before : 0 < l → next t' P ≡ l
-    before z = linked-before (prev t') linked-first back' l in_first z
+    before z = linked-before (prev t') linked_first back' l in_first z
 
-    before-order : 0 < l → P < l
-    before-order z = omega (arith, (next-order links' P (omega (arith, before z))).0, before z)
+    before_order : 0 < l → P < l
+    before_order z = omega (arith, (next_order links' P (omega (arith, before z))).0, before z)
 
     left_is_lem : left_is t' l ≡ both (ltb 0 l) (admitted f P l r)
     unfolding admitted
@@ -158,7 +158,7 @@ module _ {f : ℕ → Stats} {n : ℕ} {t h : List ℕ} {q taken k : ℕ} (n16 :
     right_key_lem e = let z = ltb-true 0 Z (both_left _ _ e) in rw (stats' r Z refl z, stat_joined)
 
     new_pairs : pairs_with (admitted f) l r (without m s.cs) ≡ one_if (both (ltb 0 l) (admitted f P l r)) + one_if (both (ltb 0 Z) (admitted f l r Z))
-    new_pairs = ap (pairs_with (admitted f) l r) first' ∙ around (admitted f) l r P linked-first in_first joins.left (omega (arith, mr)) (λ a e z. back' a l e z)
+    new_pairs = ap (pairs_with (admitted f) l r) first' ∙ around (admitted f) l r P linked_first in_first joins.left (omega (arith, mr)) (λ a e z. back' a l e z)
 
     chosen : best (admitted f) (saving f) s.cs ≡ pair l m r
     chosen = top_is_best n (admitted f) (saving f) n16 (Has h q) s.links s.wait o (popped_top p) p₁ p₂
@@ -188,12 +188,12 @@ module _ {f : ℕ → Stats} {n : ℕ} {t h : List ℕ} {q taken k : ℕ} (n16 :
           (λ e''. s.wait.offer x (popped_old p x (rw queue₁ at e'')))
           (λ y.
           let zl : 0 < l = ltb-true 0 l (both_left _ _ y.0) in
-          record { l = P; m = l; r = r; is = y.1; ok = both_right _ _ y.0; cuts = record { lm = before-order zl; mr = lr; rn = rn } })
-          (added-only add_left x e'))
+          record { l = P; m = l; r = r; is = y.1; ok = both_right _ _ y.0; cuts = record { lm = before_order zl; mr = lr; rn = rn } })
+          (added_only add_left x e'))
           (λ y.
-          let or = next-order links' r (ltb-true 0 Z (both_left _ _ y.0)) in
+          let or = next_order links' r (ltb-true 0 Z (both_left _ _ y.0)) in
           record { l = l; m = r; r = Z; is = y.1; ok = both_right _ _ y.0; cuts = record { lm = lr; mr = or.0; rn = or.1 } })
-          (added-only add_right x e)
+          (added_only add_right x e)
 
       kept' : (x : ℕ) → Has h q x → (x ≡ k → ⊥) → Has (waiting n w₂) c x
       kept' x e ne = added-kept add_right x (added-kept add_left x (rw queue₁ (popped_kept p x e ne)))

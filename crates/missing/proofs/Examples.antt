@@ -46,9 +46,9 @@ unfolding missing_from missing_select holes_before find bsearch up_to allowed co
 later = refl
 
 -- a hole at the span, and a span that is too wide
-at-span : missing_accepts (10 ∷ 0 ∷ []) 10 9 ≡ false
+at_span : missing_accepts (10 ∷ 0 ∷ []) 10 9 ≡ false
 unfolding missing_accepts counted rises_below climbs all both entry le
-at-span = refl
+at_span = refl
 
 too_wide : missing_accepts body 65536 65535 ≡ false
 unfolding missing_accepts counted rises_below climbs all both entry le

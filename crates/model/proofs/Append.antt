@@ -12,7 +12,7 @@ use lib.Seq.{get_or-append-add}
 use Rattle.model.specs.Tests.{pick}
 use Rattle.model.specs.Lists.{Rising, none, more, below, has, place_of, shift}
 use Rattle.model.proofs.Tests.{order, pick_true, pick_false, same_or_not}
-use Rattle.model.proofs.Standing.{below-under, below_past, has_here, has_later, has_outside}
+use Rattle.model.proofs.Standing.{below_under, below_past, has_here, has_later, has_outside}
 
 -- ---- append
 
@@ -21,7 +21,7 @@ unfolding below
 below-append [] ys p = sym (zero-add (below ys p))
 below-append (x ∷ xs) ys p =
     ⊎_elim
-    (λ l. rw (below-under x (xs ++ ys) p l, below-under x xs p l, suc-add) (ap suc (below-append xs ys p)))
+    (λ l. rw (below_under x (xs ++ ys) p l, below_under x xs p l, suc-add) (ap suc (below-append xs ys p)))
     (λ g. rw (below_past x (xs ++ ys) p g, below_past x xs p g) (below-append xs ys p))
     (order x p)
 
@@ -46,14 +46,14 @@ pub has_right : (xs ys : List ℕ) (p : ℕ) → has xs p ≡ false → has (xs 
 has_right xs ys p e = has-append xs ys p ∙ pick_false _ _ e
 
 -- the k-th of the second list
-pub get_d_second : (xs ys : List ℕ) (k : ℕ) → length xs ≤ k → get_or (xs ++ ys) k 0 ≡ get_or ys (k - length xs) 0
-get_d_second xs ys k h =
+pub get_or_second : (xs ys : List ℕ) (k : ℕ) → length xs ≤ k → get_or (xs ++ ys) k 0 ≡ get_or ys (k - length xs) 0
+get_or_second xs ys k h =
     let e : k ≡ length xs + (k - length xs) = omega arith in
     ap (λ (n : ℕ). get_or (xs ++ ys) n 0) e ∙ get_or-append-add xs ys (k - length xs) 0
 
 -- of two parts that meet at m, only the second holds positions from m on
-pub has-second : {a m : ℕ} {xs : List ℕ} (ys : List ℕ) → Rising a m xs → (p : ℕ) → m ≤ p → has (xs ++ ys) p ≡ has ys p
-has-second {xs = xs} ys r p h = has_right xs ys p (has_outside r p (λ w. omega (arith, w.1)))
+pub has_second : {a m : ℕ} {xs : List ℕ} (ys : List ℕ) → Rising a m xs → (p : ℕ) → m ≤ p → has (xs ++ ys) p ≡ has ys p
+has_second {xs = xs} ys r p h = has_right xs ys p (has_outside r p (λ w. omega (arith, w.1)))
 
 -- ---- shift
 
@@ -62,16 +62,16 @@ unfolding shift
 length_shift b [] = refl
 length_shift b (x ∷ xs) = ap suc (length_shift b xs)
 
-pub get_d_shift : (b : ℕ) (xs : List ℕ) (k : ℕ) → k < length xs → get_or (shift b xs) k 0 ≡ b + get_or xs k 0
+pub get_or-shift : (b : ℕ) (xs : List ℕ) (k : ℕ) → k < length xs → get_or (shift b xs) k 0 ≡ b + get_or xs k 0
 unfolding shift
-get_d_shift b [] k h = absurd (omega arith)
-get_d_shift b (x ∷ xs) zero h = refl
-get_d_shift b (x ∷ xs) (suc k) h = get_d_shift b xs k (omega arith)
+get_or-shift b [] k h = absurd (omega arith)
+get_or-shift b (x ∷ xs) zero h = refl
+get_or-shift b (x ∷ xs) (suc k) h = get_or-shift b xs k (omega arith)
 
-pub shift-rising : {a c : ℕ} {xs : List ℕ} (b : ℕ) → Rising a c xs → Rising (b + a) (b + c) (shift b xs)
+pub shift_rising : {a c : ℕ} {xs : List ℕ} (b : ℕ) → Rising a c xs → Rising (b + a) (b + c) (shift b xs)
 unfolding shift
-shift-rising b none = none
-shift-rising {a} {c} b (more {x = x} l h r) = more {a = b + a} {b = b + c} {x = b + x} (omega arith) (omega arith) (rw (add-suc b x) at (shift-rising b r))
+shift_rising b none = none
+shift_rising {a} {c} b (more {x = x} l h r) = more {a = b + a} {b = b + c} {x = b + x} (omega arith) (omega arith) (rw (add-suc b x) at (shift_rising b r))
 
 pub shift_zero : (xs : List ℕ) → shift 0 xs ≡ xs
 unfolding shift
@@ -89,7 +89,7 @@ unfolding below shift
 below-shift b [] p = refl
 below-shift b (x ∷ xs) p =
     ⊎_elim
-    (λ l. below-under (b + x) (shift b xs) (b + p) (omega arith) ∙ ap suc (below-shift b xs p) ∙ sym (below-under x xs p l))
+    (λ l. below_under (b + x) (shift b xs) (b + p) (omega arith) ∙ ap suc (below-shift b xs p) ∙ sym (below_under x xs p l))
     (λ g. below_past (b + x) (shift b xs) (b + p) (omega arith) ∙ below-shift b xs p ∙ sym (below_past x xs p g))
     (order x p)
 

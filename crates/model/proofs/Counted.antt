@@ -6,7 +6,7 @@ use Prim.Native.Nat.{ℕ, ◌+◌, ◌<◌, ◌≤◌}
 use native.Mathlib.Omega.{arith}
 use borrow.Author.Tests.{le-leb, lt-leb, leb-true, not-false, not-true}
 use Rattle.model.specs.Tests.{both, pick, all}
-use Rattle.model.proofs.Tests.{both_true, both_left, both_right, both_first, both-second, all-step}
+use Rattle.model.proofs.Tests.{both_true, both_left, both_right, both_first, both_second, all_step}
 use Rattle.model.specs.Lists.{counted}
 
 -- a test that passed is left out
@@ -42,7 +42,7 @@ or_pick false b = refl
 
 -- one turn of a loop that keeps a flag
 pub flag_step : (t : ℕ → Bool) (i : ℕ) {ok u : Bool} → ok ≡ all t i → u ≡ t i → (ok && u) ≡ all t (i + 1)
-flag_step t i p q = rw (p, q) (and_both _ _ ∙ sym (all-step t i))
+flag_step t i p q = rw (p, q) (and_both _ _ ∙ sym (all_step t i))
 
 -- a test that holds anyway
 pub both_yes : (a : Bool) → both a true ≡ a
@@ -63,14 +63,14 @@ module _ (span n : ℕ) where
 
   pub counted_past : span < n → counted span n ≡ false
   unfolding counted
-  counted_past h = both-second _ _ (both_first _ _ (lt-leb n span h))
+  counted_past h = both_second _ _ (both_first _ _ (lt-leb n span h))
 
-  pub counted-right : Count span n → counted span n ≡ true
+  pub counted_right : Count span n → counted span n ≡ true
   unfolding counted
-  counted-right c = both_true _ _ (le-leb 1 n c.some) (both_true _ _ (le-leb n span c.within) (le-leb n 65535 c.most))
+  counted_right c = both_true _ _ (le-leb 1 n c.some) (both_true _ _ (le-leb n span c.within) (le-leb n 65535 c.most))
 
-  pub counted-count : counted span n ≡ true → Count span n
+  pub counted_count : counted span n ≡ true → Count span n
   unfolding counted
-  counted-count ok =
+  counted_count ok =
       let rest = both_right _ _ ok in
       record { some = leb-true 1 n (both_left _ _ ok); within = leb-true n span (both_left _ _ rest); most = leb-true n 65535 (both_right _ _ rest) }

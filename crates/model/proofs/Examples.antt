@@ -24,9 +24,9 @@ two_runs : runs_of (range 10 10 ++ range 100 10) ≡ run 10 10 ∷ run 100 10 �
 unfolding runs_of onto range pick
 two_runs = refl
 
-spread-out : spread (run 3 3 ∷ run 9 1 ∷ []) ≡ 3 ∷ 4 ∷ 5 ∷ 9 ∷ []
+spread_out : spread (run 3 3 ∷ run 9 1 ∷ []) ≡ 3 ∷ 4 ∷ 5 ∷ 9 ∷ []
 unfolding spread range
-spread-out = refl
+spread_out = refl
 
 -- 3 4 5: the ordinal of 4 is 1 and 7 has none; the ordinal 1 is 4 and 3 is past the end
 ranked : (rank_of (3 ∷ 4 ∷ 5 ∷ []) 4 ≡ 1 ∷ []) × (rank_of (3 ∷ 4 ∷ 5 ∷ []) 7 ≡ [])

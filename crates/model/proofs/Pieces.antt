@@ -13,8 +13,8 @@ use lib.Seq.{get_or-append-add, drop-append_seam}
 use Rattle.model.specs.Tests.{flat}
 use Rattle.model.specs.Lists.{Rising, none, below, has}
 use Rattle.model.proofs.Tests.{flat_front, last_or_before}
-use Rattle.model.proofs.Rising.{rising-append, rising_wider}
-use Rattle.model.proofs.Standing.{below_none, below-whole, has_outside}
+use Rattle.model.proofs.Rising.{rising_append, rising_wider}
+use Rattle.model.proofs.Standing.{below_none, below_whole, has_outside}
 use Rattle.model.proofs.Append.{below-append, has_left, has_right}
 
 -- piece i lies in [lo i, hi i); the windows follow one another between a and b
@@ -29,11 +29,11 @@ module _ {g : ℕ → List ℕ} {lo hi : ℕ → ℕ} where
   pub fewer : {n a b : ℕ} → Pieces g lo hi (suc n) a b → Pieces g lo hi n a (lo n)
   fewer {n} s = record { inside = λ i l. s.inside i (omega arith); first = λ i l. s.first i (omega arith); wide = λ i l. s.wide i (omega arith); last = λ i l. s.apart i n l (omega arith); apart = λ i j l h. s.apart i j l (omega arith) }
 
-  pub pieces-rising : (n : ℕ) {a b : ℕ} → a ≤ b → Pieces g lo hi n a b → Rising a b (flat g n)
+  pub pieces_rising : (n : ℕ) {a b : ℕ} → a ≤ b → Pieces g lo hi n a b → Rising a b (flat g n)
   unfolding flat
-  pieces-rising zero h s = none
-  pieces-rising (suc n) h s =
-      rising-append (s.first n (omega arith)) (le_trans (s.wide n (omega arith)) (s.last n (omega arith))) (pieces-rising n (s.first n (omega arith)) (fewer s))
+  pieces_rising zero h s = none
+  pieces_rising (suc n) h s =
+      rising_append (s.first n (omega arith)) (le_trans (s.wide n (omega arith)) (s.last n (omega arith))) (pieces_rising n (s.first n (omega arith)) (fewer s))
       (rising_wider (omega arith) (s.last n (omega arith)) (s.inside n (omega arith)))
 
   -- below the first window nothing stands
@@ -55,10 +55,10 @@ module _ {g : ℕ → List ℕ} {lo hi : ℕ → ℕ} where
   pieces_place (suc n) s p i h l u =
       ⊎_elim
       (λ (q : i ≡ n).
-      let r = pieces-rising n (s.first n (omega arith)) (fewer s) in
+      let r = pieces_rising n (s.first n (omega arith)) (fewer s) in
       let v : lo n ≤ p = rw q at l in
       rw q (
-        below-append (flat g n) (g n) p ∙ rw (below-whole r p v),
+        below-append (flat g n) (g n) p ∙ rw (below_whole r p v),
         has_right (flat g n) (g n) p (has_outside r p (λ w. omega (arith, w.1))),
       ))
       (λ (q : i < n).
@@ -88,5 +88,5 @@ module _ (g : ℕ → List ℕ) where
       omega (arith, f)
 
   -- what is left from ordinal length (flat g i) on
-  pub flat-rest : (n i : ℕ) → i < n → drop (length (flat g i)) (flat g n) ≡ g i ++ flat (λ (j : ℕ). g (suc i + j)) (n - suc i)
-  flat-rest n i h = rw (flat_split n i h) (drop-append_seam (flat g i) _)
+  pub flat_rest : (n i : ℕ) → i < n → drop (length (flat g i)) (flat g n) ≡ g i ++ flat (λ (j : ℕ). g (suc i + j)) (n - suc i)
+  flat_rest n i h = rw (flat_split n i h) (drop-append_seam (flat g i) _)

@@ -18,11 +18,11 @@ unfolding positions_of
 length_positions start [] = refl
 length_positions start (r ∷ rs) = ap suc (length_positions start rs)
 
-pub get_d_positions : (start : ℕ) (rows : List ℕ) (k : ℕ) → k < length rows → get_or (positions_of start rows) k 0 ≡ get_or rows k 0 - start
+pub get_or_positions : (start : ℕ) (rows : List ℕ) (k : ℕ) → k < length rows → get_or (positions_of start rows) k 0 ≡ get_or rows k 0 - start
 unfolding positions_of
-get_d_positions start [] k h = absurd (omega arith)
-get_d_positions start (r ∷ rs) zero h = refl
-get_d_positions start (r ∷ rs) (suc k) h = get_d_positions start rs k (omega arith)
+get_or_positions start [] k h = absurd (omega arith)
+get_or_positions start (r ∷ rs) zero h = refl
+get_or_positions start (r ∷ rs) (suc k) h = get_or_positions start rs k (omega arith)
 
 pub positions_take : (start n : ℕ) (xs : List ℕ) → positions_of start (take n xs) ≡ take n (positions_of start xs)
 unfolding positions_of
@@ -67,12 +67,12 @@ positions_rising {a} {b} start h (more {x = x} l u r) =
 follows_shift : (b x y : ℕ) → eqb (b + y) (suc (b + x)) ≡ eqb y (suc x)
 follows_shift b x y = same_eqb (b + y) (suc (b + x)) y (suc x) (λ e. omega arith) (λ e. omega arith)
 
-pub runs-shift : (b : ℕ) (xs : List ℕ) → length (runs_of (shift b xs)) ≡ length (runs_of xs)
+pub runs_shift : (b : ℕ) (xs : List ℕ) → length (runs_of (shift b xs)) ≡ length (runs_of xs)
 unfolding shift runs_of onto
-runs-shift b [] = refl
-runs-shift b (x ∷ []) = refl
-runs-shift b (x ∷ y ∷ ys) =
-    omega (arith, runs_cons (b + x) (b + y) (shift b ys), runs_cons x y ys, ap (λ (t : Bool). pick {A = ℕ} t 1 0) (follows_shift b x y), runs-shift b (y ∷ ys))
+runs_shift b [] = refl
+runs_shift b (x ∷ []) = refl
+runs_shift b (x ∷ y ∷ ys) =
+    omega (arith, runs_cons (b + x) (b + y) (shift b ys), runs_cons x y ys, ap (λ (t : Bool). pick {A = ℕ} t 1 0) (follows_shift b x y), runs_shift b (y ∷ ys))
 
 pub runs_positions : {a b : ℕ} {rows : List ℕ} (start : ℕ) → start ≤ a → Rising a b rows → length (runs_of (positions_of start rows)) ≡ length (runs_of rows)
-runs_positions {a} {b} {rows} start h r = sym (runs-shift start (positions_of start rows)) ∙ ap (λ (xs : List ℕ). length (runs_of xs)) (sym (positions_back start h r))
+runs_positions {a} {b} {rows} start h r = sym (runs_shift start (positions_of start rows)) ∙ ap (λ (xs : List ℕ). length (runs_of xs)) (sym (positions_back start h r))

@@ -12,24 +12,24 @@ use lib.ListN.{length, get_or, drop}
 use borrow.Author.Tests.{lt-ltb, le-ltb}
 use Rattle.model.specs.Lists.{Rising, none, more, below, has, range}
 use Rattle.model.proofs.Tests.{order}
-use Rattle.model.proofs.Rising.{rising-room}
-use Rattle.model.proofs.Standing.{below-under, below_past, below_none, has_outside, has-at}
+use Rattle.model.proofs.Rising.{rising_room}
+use Rattle.model.proofs.Standing.{below_under, below_past, below_none, has_outside, has_at}
 
 pub length-range : (a n : ℕ) → length (range a n) ≡ n
 unfolding range
 length-range a zero = refl
 length-range a (suc n) = ap suc (length-range (suc a) n)
 
-pub get_d_range : (a n k : ℕ) → k < n → get_or (range a n) k 0 ≡ a + k
+pub get_or-range : (a n k : ℕ) → k < n → get_or (range a n) k 0 ≡ a + k
 unfolding range
-get_d_range a zero k h = absurd (omega arith)
-get_d_range a (suc n) zero h = sym (add-zero a)
-get_d_range a (suc n) (suc k) h = get_d_range (suc a) n k (omega arith) ∙ omega arith
+get_or-range a zero k h = absurd (omega arith)
+get_or-range a (suc n) zero h = sym (add-zero a)
+get_or-range a (suc n) (suc k) h = get_or-range (suc a) n k (omega arith) ∙ omega arith
 
-pub range-rising : (a n : ℕ) → Rising a (a + n) (range a n)
+pub range_rising : (a n : ℕ) → Rising a (a + n) (range a n)
 unfolding range
-range-rising a zero = none
-range-rising a (suc n) = more {a = a} {b = a + suc n} {x = a} (omega arith) (omega arith) (rw (suc-add, ← add-suc) at (range-rising (suc a) n))
+range_rising a zero = none
+range_rising a (suc n) = more {a = a} {b = a + suc n} {x = a} (omega arith) (omega arith) (rw (suc-add, ← add-suc) at (range_rising (suc a) n))
 
 pub range-append : (a m n : ℕ) → range a (m + n) ≡ range a m ++ range (a + m) n
 unfolding range
@@ -50,29 +50,29 @@ unfolding range below
 below-range a zero p = omega arith
 below-range a (suc n) p =
     ⊎_elim
-    (λ l. below-under a (range (suc a) n) p l ∙ ap suc (below-range (suc a) n p) ∙ omega arith)
-    (λ g. below_past a (range (suc a) n) p g ∙ below_none (range-rising (suc a) n) p (omega arith) ∙ omega arith)
+    (λ l. below_under a (range (suc a) n) p l ∙ ap suc (below-range (suc a) n p) ∙ omega arith)
+    (λ g. below_past a (range (suc a) n) p g ∙ below_none (range_rising (suc a) n) p (omega arith) ∙ omega arith)
     (order a p)
 
 pub has-range : (a n p : ℕ) → a ≤ p → p < a + n → has (range a n) p ≡ true
 has-range a n p l h =
     let e : a + (p - a) ≡ p = omega arith in
     let i : p - a < n = omega arith in
-    rw (get_d_range a n (p - a) i, e) at (has-at (range a n) (p - a) (omega (arith, length-range a n)))
+    rw (get_or-range a n (p - a) i, e) at (has_at (range a n) (p - a) (omega (arith, length-range a n)))
 
 -- a position in a range that starts at it or before
 pub has_past : (a n q : ℕ) → a ≤ q → has (range a n) q ≡ ltb (q - a) n
 has_past a n q h =
     ⊎_elim
     (λ l. has-range a n q h (omega arith) ∙ sym (lt-ltb (q - a) n l))
-    (λ g. has_outside (range-rising a n) q (λ o. omega (arith, o.1)) ∙ sym (le-ltb (q - a) n g))
+    (λ g. has_outside (range_rising a n) q (λ o. omega (arith, o.1)) ∙ sym (le-ltb (q - a) n g))
     (order (q - a) n)
 
 -- a rising list that fills its room is the range
-pub rising-full : {a b : ℕ} {xs : List ℕ} → Rising a b xs → a + length xs ≡ b → range a (length xs) ≡ xs
+pub rising_full : {a b : ℕ} {xs : List ℕ} → Rising a b xs → a + length xs ≡ b → range a (length xs) ≡ xs
 unfolding range
-rising-full none e = refl
-rising-full {a} {b} (more {x = x} {xs = xs} l h r) e =
-    let q : x ≡ a = omega (arith, rising-room h r) in
-    let rest : range (suc x) (length xs) ≡ xs = rising-full r (omega arith) in
+rising_full none e = refl
+rising_full {a} {b} (more {x = x} {xs = xs} l h r) e =
+    let q : x ≡ a = omega (arith, rising_room h r) in
+    let rest : range (suc x) (length xs) ≡ xs = rising_full r (omega arith) in
     rw (← q, rest)

@@ -15,7 +15,7 @@ use Rattle.model.specs.Answers.{over, rank_or_none, ranks_of, lies_in, rank_in}
 use Rattle.model.specs.declared.Place.{Place}
 use Rattle.model.proofs.Tests.{either, never, pick_true, pick_false, both_true, both_left, both_right}
 use Rattle.model.proofs.Standing.{has_outside}
-use Rattle.model.proofs.Append.{place_shift, shift-rising}
+use Rattle.model.proofs.Append.{place_shift, shift_rising}
 use Rattle.model.proofs.Writing.{over_none, over-length, over-next}
 
 -- ---- a loop that answers query after query: i are answered
@@ -46,9 +46,9 @@ module _ {f : ℕ → ℕ} {ps before out : List ℕ} {i : ℕ} (g : Answering f
   pub answering_end : length ps ≤ i → out ≡ over (map f ps) before
   answering_end h = rw (take_all i ps h) at g.front
 
-pub length-ranks : (rows ps : List ℕ) → length (ranks_of rows ps) ≡ length ps
+pub length_ranks : (rows ps : List ℕ) → length (ranks_of rows ps) ≡ length ps
 unfolding ranks_of
-length-ranks rows ps = length-map ps (λ p. rank_or_none (place_of rows p))
+length_ranks rows ps = length-map ps (λ p. rank_or_none (place_of rows p))
 
 -- ---- one answer of a part
 
@@ -81,5 +81,5 @@ part_rank {span} {rows} place base p r e =
     (λ t.
     let whole : base + (p - base) ≡ p = omega (arith, lies_from base span p t) in
     sym (rank_in_lem place base span p t (sym (e (p - base) ∙ sym (place_shift base rows (p - base)))) refl) ∙ rw whole)
-    (λ f. sym (rank_out place base span p f) ∙ sym (pick_false _ _ (has_outside (shift-rising base r) p (λ w. never (lies base span p (omega (arith, w.0)) w.1) f))))
+    (λ f. sym (rank_out place base span p f) ∙ sym (pick_false _ _ (has_outside (shift_rising base r) p (λ w. never (lies base span p (omega (arith, w.0)) w.1) f))))
     (either (lies_in base span p))

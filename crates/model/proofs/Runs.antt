@@ -13,8 +13,8 @@ use Rattle.model.specs.Tests.{pick, tabulate, flat, total}
 use Rattle.model.specs.Lists.{Rising, none, more, below, has, range, Run, run, spread, onto, runs_of, Apart, stop, next}
 use Rattle.model.proofs.Tests.{either, pick_true, pick_false, same_or_not, strictly}
 use Rattle.model.proofs.Sums.{total_front}
-use Rattle.model.proofs.Rising.{rising-append, rising_wider}
-use Rattle.model.proofs.Ranges.{range-rising, below-range, length-range, get_d_range}
+use Rattle.model.proofs.Rising.{rising_append, rising_wider}
+use Rattle.model.proofs.Ranges.{range_rising, below-range, length-range, get_or-range}
 use Rattle.model.proofs.Pieces.{Pieces, pieces_place, pieces_select}
 
 -- ---- a position put in front
@@ -48,10 +48,10 @@ spread-runs_of (x ∷ xs) = spread-onto x (runs_of xs) ∙ ap (λ (l : List ℕ)
 single : {a b : ℕ} (x : ℕ) {rs : List Run} → a ≤ x → x < b → Apart (suc (x + 1)) b rs → Apart a b (run x 1 ∷ rs)
 single {a} {b} x l h s = next {b = b} {r = run x 1} l (omega arith) (omega arith) s
 
-apart-onto : {a b x : ℕ} {rs : List Run} → a ≤ x → x < b → Apart (suc x) b rs → Apart a b (onto x rs)
+apart_onto : {a b x : ℕ} {rs : List Run} → a ≤ x → x < b → Apart (suc x) b rs → Apart a b (onto x rs)
 unfolding onto
-apart-onto {a} {b} {x} l h stop = single x l h stop
-apart-onto {a} {b} {x} l h (next {r = r} {rs = rs} p q e s) =
+apart_onto {a} {b} {x} l h stop = single x l h stop
+apart_onto {a} {b} {x} l h (next {r = r} {rs = rs} p q e s) =
     ⊎_elim
     (λ (j : r.start ≡ suc x).
     let f : x + suc r.size ≡ r.start + r.size = omega arith in
@@ -61,18 +61,18 @@ apart-onto {a} {b} {x} l h (next {r = r} {rs = rs} p q e s) =
     rw (onto_new x r rs n) (single x l h (next {r = r} far q e s)))
     (same_or_not r.start (suc x))
 
-pub apart-runs_of : {a b : ℕ} {xs : List ℕ} → Rising a b xs → Apart a b (runs_of xs)
+pub apart_runs_of : {a b : ℕ} {xs : List ℕ} → Rising a b xs → Apart a b (runs_of xs)
 unfolding runs_of
-apart-runs_of none = stop
-apart-runs_of (more l h r) = apart-onto l h (apart-runs_of r)
+apart_runs_of none = stop
+apart_runs_of (more l h r) = apart_onto l h (apart_runs_of r)
 
-pub spread-rising : {a b : ℕ} {rs : List Run} → Apart a b rs → Rising a b (spread rs)
+pub spread_rising : {a b : ℕ} {rs : List Run} → Apart a b rs → Rising a b (spread rs)
 unfolding spread
-spread-rising stop = none
-spread-rising {a} {b} (next {r = r} l q e s) =
+spread_rising stop = none
+spread_rising {a} {b} (next {r = r} l q e s) =
     let m = r.start + r.size in
     let under : a ≤ m = le_trans l (omega arith) in
-    rising-append under e (rising_wider l (omega arith) (range-rising r.start r.size)) (rising_wider (omega arith) (omega arith) (spread-rising s))
+    rising_append under e (rising_wider l (omega arith) (range_rising r.start r.size)) (rising_wider (omega arith) (omega arith) (spread_rising s))
 
 onto_alone : {b : ℕ} (x : ℕ) (rs : List Run) → Apart (suc (x + 1)) b rs → onto x rs ≡ run x 1 ∷ rs
 unfolding onto
@@ -101,25 +101,25 @@ runs_of-spread {a} {b} (next {r = r} {rs = rs} l q e s) =
 -- ---- how many runs a list has
 
 -- one element more in front is a run more, but where it touches the first run
-onto-count : (x y : ℕ) (rs : List Run) → (get_or rs 0 (run 0 0)).start ≡ y → 1 ≤ length rs → length (onto x rs) + pick (eqb y (suc x)) 1 0 ≡ suc (length rs)
+onto_count : (x y : ℕ) (rs : List Run) → (get_or rs 0 (run 0 0)).start ≡ y → 1 ≤ length rs → length (onto x rs) + pick (eqb y (suc x)) 1 0 ≡ suc (length rs)
 unfolding onto pick
-onto-count x y [] e h = absurd (omega arith)
-onto-count x y (r ∷ rs) e h = rw (← e) (⊎_elim (λ t. rw t (omega arith)) (λ t. rw t (omega arith)) (either (eqb r.start (suc x))))
+onto_count x y [] e h = absurd (omega arith)
+onto_count x y (r ∷ rs) e h = rw (← e) (⊎_elim (λ t. rw t (omega arith)) (λ t. rw t (omega arith)) (either (eqb r.start (suc x))))
 
 -- the runs of a list that is not empty start with its first element
-onto-start : (y : ℕ) (rs : List Run) → (get_or (onto y rs) 0 (run 0 0)).start ≡ y
+onto_start : (y : ℕ) (rs : List Run) → (get_or (onto y rs) 0 (run 0 0)).start ≡ y
 unfolding onto pick
-onto-start y [] = refl
-onto-start y (r ∷ rs) = ⊎_elim (λ e. rw e) (λ e. rw e) (either (eqb r.start (suc y)))
+onto_start y [] = refl
+onto_start y (r ∷ rs) = ⊎_elim (λ e. rw e) (λ e. rw e) (either (eqb r.start (suc y)))
 
-onto-some : (y : ℕ) (rs : List Run) → 1 ≤ length (onto y rs)
+onto_some : (y : ℕ) (rs : List Run) → 1 ≤ length (onto y rs)
 unfolding onto pick
-onto-some y [] = omega arith
-onto-some y (r ∷ rs) = ⊎_elim (λ e. rw e (omega arith)) (λ e. rw e (omega arith)) (either (eqb r.start (suc y)))
+onto_some y [] = omega arith
+onto_some y (r ∷ rs) = ⊎_elim (λ e. rw e (omega arith)) (λ e. rw e (omega arith)) (either (eqb r.start (suc y)))
 
 pub runs_cons : (x y : ℕ) (ys : List ℕ) → length (runs_of (x ∷ y ∷ ys)) + pick (eqb y (suc x)) 1 0 ≡ suc (length (runs_of (y ∷ ys)))
 unfolding runs_of
-runs_cons x y ys = onto-count x y (onto y (runs_of ys)) (onto-start y (runs_of ys)) (onto-some y (runs_of ys))
+runs_cons x y ys = onto_count x y (onto y (runs_of ys)) (onto_start y (runs_of ys)) (onto_some y (runs_of ys))
 
 -- two lists have the runs of each, but where the second goes on from the first
 pub runs_append : (x : ℕ) (xs : List ℕ) (y : ℕ) (ys : List ℕ) → length (runs_of ((x ∷ xs) ++ y ∷ ys)) + pick (eqb y (suc (get_or (x ∷ xs) (length xs) 0))) 1 0 ≡ length (runs_of (x ∷ xs)) + length (runs_of (y ∷ ys))
@@ -127,15 +127,15 @@ unfolding runs_of onto
 runs_append x [] y ys = omega (arith, runs_cons x y ys)
 runs_append x (z ∷ xs) y ys = omega (arith, runs_cons x z (xs ++ y ∷ ys), runs_cons x z xs, runs_append z xs y ys)
 
-pub runs-some : (x : ℕ) (xs : List ℕ) → 1 ≤ length (runs_of (x ∷ xs))
+pub runs_some : (x : ℕ) (xs : List ℕ) → 1 ≤ length (runs_of (x ∷ xs))
 unfolding runs_of
-runs-some x xs = onto-some x (runs_of xs)
+runs_some x xs = onto_some x (runs_of xs)
 
-pub runs-most : (xs : List ℕ) → length (runs_of xs) ≤ length xs
+pub runs_most : (xs : List ℕ) → length (runs_of xs) ≤ length xs
 unfolding runs_of onto
-runs-most [] = omega arith
-runs-most (x ∷ []) = omega arith
-runs-most (x ∷ y ∷ ys) = omega (arith, runs_cons x y ys, runs-most (y ∷ ys))
+runs_most [] = omega arith
+runs_most (x ∷ []) = omega arith
+runs_most (x ∷ y ∷ ys) = omega (arith, runs_cons x y ys, runs_most (y ∷ ys))
 
 -- ---- tabulated runs, as a body has them
 
@@ -163,26 +163,26 @@ pub record Placed (a b : ℕ) (r : Run) : Type 0 where
   pub filled : 1 ≤ r.size
   pub to : r.start + r.size ≤ b
 
-pub apart-at : {a b : ℕ} {rs : List Run} → Apart a b rs → (i : ℕ) → i < length rs → Placed a b (nth rs i)
-apart-at stop i h = absurd (omega arith)
-apart-at (next p q o t) zero h = record { from = p; filled = q; to = o }
-apart-at (next p q o t) (suc i) h = let s = apart-at t i (omega arith) in record { from = omega (arith, s.from); filled = s.filled; to = s.to }
+pub apart_at : {a b : ℕ} {rs : List Run} → Apart a b rs → (i : ℕ) → i < length rs → Placed a b (nth rs i)
+apart_at stop i h = absurd (omega arith)
+apart_at (next p q o t) zero h = record { from = p; filled = q; to = o }
+apart_at (next p q o t) (suc i) h = let s = apart_at t i (omega arith) in record { from = omega (arith, s.from); filled = s.filled; to = s.to }
 
 pub apart_next : {a b : ℕ} {rs : List Run} → Apart a b rs → (i : ℕ) → suc i < length rs → (nth rs i).start + (nth rs i).size < (nth rs (suc i)).start
 apart_next stop i h = absurd (omega arith)
-apart_next (next p q o t) zero h = (apart-at t 0 (omega arith)).from
+apart_next (next p q o t) zero h = (apart_at t 0 (omega arith)).from
 apart_next (next p q o t) (suc i) h = apart_next t i (omega arith)
 
 -- the rows of runs
-pub sizes-total : (rs : List Run) → total (sizes rs) (length rs) ≡ length (spread rs)
+pub sizes_total : (rs : List Run) → total (sizes rs) (length rs) ≡ length (spread rs)
 unfolding spread total
-sizes-total [] = refl
-sizes-total (r ∷ rs) = total_front (sizes (r ∷ rs)) (length rs) ∙ rw (sizes-total rs) (sym (length-append (range r.start r.size) (spread rs) ∙ rw length-range))
+sizes_total [] = refl
+sizes_total (r ∷ rs) = total_front (sizes (r ∷ rs)) (length rs) ∙ rw (sizes_total rs) (sym (length-append (range r.start r.size) (spread rs) ∙ rw length-range))
 
 -- runs that stand apart, and one more behind them
-pub apart-behind : {a b c : ℕ} {r : Run} {rs : List Run} → Apart a c rs → a ≤ r.start → c < r.start → 1 ≤ r.size → r.start + r.size ≤ b → Apart a b (rs ++ (r ∷ []))
-apart-behind stop l h f e = next l f e stop
-apart-behind {b = b} (next p q o t) l h f e = next {b = b} p q (omega arith) (apart-behind t (omega arith) h f e)
+pub apart_behind : {a b c : ℕ} {r : Run} {rs : List Run} → Apart a c rs → a ≤ r.start → c < r.start → 1 ≤ r.size → r.start + r.size ≤ b → Apart a b (rs ++ (r ∷ []))
+apart_behind stop l h f e = next l f e stop
+apart_behind {b = b} (next p q o t) l h f e = next {b = b} p q (omega arith) (apart_behind t (omega arith) h f e)
 
 -- place and select under spread: run i, whose window holds p or comes last before it, is asked
 module _ (f : ℕ → Run) (n a b : ℕ) (s : Pieces (λ (i : ℕ). range (f i).start (f i).size) (λ (i : ℕ). (f i).start) (λ (i : ℕ). (f i).start + (f i).size) n a b) where
@@ -195,4 +195,4 @@ module _ (f : ℕ → Run) (n a b : ℕ) (s : Pieces (λ (i : ℕ). range (f i).
 pub spread_select : (f : ℕ → Run) (n i k : ℕ) → i < n → k < (f i).size → get_or (spread (tabulate f n)) (length (spread (tabulate f i)) + k) 0 ≡ (f i).start + k
 spread_select f n i k h l =
     rw (spread-tabulate f n, spread-tabulate f i)
-    (pieces_select (λ (j : ℕ). range (f j).start (f j).size) n i k h (rw (length-range (f i).start (f i).size) l) ∙ get_d_range (f i).start (f i).size k l)
+    (pieces_select (λ (j : ℕ). range (f j).start (f j).size) n i k h (rw (length-range (f i).start (f i).size) l) ∙ get_or-range (f i).start (f i).size k l)

@@ -23,9 +23,9 @@ total-le f i (suc n) h =
     ⊎_elim (λ (e : i ≡ suc n). rw e (omega arith)) (λ (l : i < suc n). omega (arith, total-le f i n (omega arith))) (eq-or-lt_of_le h)
 
 -- what stands before i, and f i, are in the sum
-pub total-within : (f : ℕ → ℕ) (i n : ℕ) → i < n → total f i + f i ≤ total f n
+pub total_within : (f : ℕ → ℕ) (i n : ℕ) → i < n → total f i + f i ≤ total f n
 unfolding total
-total-within f i n h = total-le f (suc i) n h
+total_within f i n h = total-le f (suc i) n h
 
 pub total_front : (f : ℕ → ℕ) (n : ℕ) → total f (suc n) ≡ f 0 + total (λ (i : ℕ). f (suc i)) n
 unfolding total

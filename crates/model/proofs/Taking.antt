@@ -11,8 +11,8 @@ use lib.Seq.{ext_get_or, get_or-take, get_or-drop, drop-cons, drop-drop, drop-ap
 use borrow.Rule.Slice.PartMut.{put_mid}
 use Rattle.model.specs.Tests.{tabulate}
 use Rattle.model.specs.Lists.{range, walk_of}
-use Rattle.model.proofs.Tests.{length-tabulate, get_d_tabulate, tabulate-same}
-use Rattle.model.proofs.Ranges.{length-range, get_d_range}
+use Rattle.model.proofs.Tests.{length-tabulate, get_or-tabulate, tabulate-same}
+use Rattle.model.proofs.Ranges.{length-range, get_or-range}
 
 -- as many as fit of one list after the other
 pub take-append : {A : Type 0} (m : ℕ) (us vs : List A) → take m (us ++ vs) ≡ take m us ++ take (m - length us) vs
@@ -21,8 +21,8 @@ take-append (suc m) [] vs = let e : suc m - 0 ≡ suc m = omega arith in rw e
 take-append (suc m) (u ∷ us) vs = let e : suc m - suc (length us) ≡ m - length us = omega arith in rw (e, take-append m us vs)
 
 -- what is left from an index on is what stands there and the rest
-pub drop-step : {A : Type 0} (xs : List A) (i : ℕ) (d : A) → i < length xs → drop i xs ≡ get_or xs i d ∷ drop (i + 1) xs
-drop-step xs i d h = rw (add-one i, drop-cons xs i d h)
+pub drop_step : {A : Type 0} (xs : List A) (i : ℕ) (d : A) → i < length xs → drop i xs ≡ get_or xs i d ∷ drop (i + 1) xs
+drop_step xs i d h = rw (add-one i, drop-cons xs i d h)
 
 -- what is left behind the next ones
 pub drop_past : {A : Type 0} (xs vs rest : List A) (n : ℕ) → drop n xs ≡ vs ++ rest → drop (n + length vs) xs ≡ rest
@@ -46,14 +46,14 @@ walk_tabulate f n k m {r} e =
     let size : length (take m (drop k (tabulate f n))) ≡ r = simp (length-take, length-drop, length-tabulate) (sym e) in
     ext_get_or 0 (take m (drop k (tabulate f n))) (tabulate g r) (size ∙ sym (length-tabulate g r))
     (λ i l.
-    get_or-take m (drop k (tabulate f n)) i 0 (omega arith) ∙ get_or-drop k (tabulate f n) i 0 ∙ get_d_tabulate f n (k + i) 0 (omega arith) ∙ sym (get_d_tabulate g r i 0 (omega arith)))
+    get_or-take m (drop k (tabulate f n)) i 0 (omega arith) ∙ get_or-drop k (tabulate f n) i 0 ∙ get_or-tabulate f n (k + i) 0 (omega arith) ∙ sym (get_or-tabulate g r i 0 (omega arith)))
 
 pub range-tabulate : (a n : ℕ) → range a n ≡ tabulate (λ (j : ℕ). a + j) n
 range-tabulate a n =
     let g : ℕ → ℕ = λ j. a + j in
     let size = length-range a n in
     ext_get_or 0 (range a n) (tabulate g n) (length-range a n ∙ sym (length-tabulate g n))
-    (λ i l. get_d_range a n i (omega arith) ∙ sym (get_d_tabulate g n i 0 (omega arith)))
+    (λ i l. get_or-range a n i (omega arith) ∙ sym (get_or-tabulate g n i 0 (omega arith)))
 
 pub walk_range : (a n k m : ℕ) {r : ℕ} → r ≡ min m (n - k) → walk_of (range a n) k m ≡ range (a + k) r
 walk_range a n k m {r} e =

@@ -60,10 +60,10 @@ pub pick_false : {A : Type 0} {t : Bool} (a b : A) → t ≡ false → pick t a 
 unfolding pick
 pick_false a b e = rw e
 
-pub pick-most : (t : Bool) (a b m : ℕ) → a ≤ m → b ≤ m → pick t a b ≤ m
+pub pick_most : (t : Bool) (a b m : ℕ) → a ≤ m → b ≤ m → pick t a b ≤ m
 unfolding pick
-pick-most true a b m p q = p
-pick-most false a b m p q = q
+pick_most true a b m p q = p
+pick_most false a b m p q = q
 
 -- ---- both of two tests
 
@@ -85,10 +85,10 @@ pub both_first : (a b : Bool) → a ≡ false → both a b ≡ false
 unfolding both
 both_first a b p = rw p
 
-pub both-second : (a b : Bool) → b ≡ false → both a b ≡ false
+pub both_second : (a b : Bool) → b ≡ false → both a b ≡ false
 unfolding both
-both-second true b p = p
-both-second false b p = refl
+both_second true b p = p
+both_second false b p = refl
 
 -- ---- a test at every index
 
@@ -97,19 +97,19 @@ module _ (t : ℕ → Bool) where
   unfolding all
   all_more i p q = rw add-one (both_true _ _ p q)
 
-  pub all-step : (i : ℕ) → all t (i + 1) ≡ both (all t i) (t i)
+  pub all_step : (i : ℕ) → all t (i + 1) ≡ both (all t i) (t i)
   unfolding all
-  all-step i = rw add-one
+  all_step i = rw add-one
 
-  pub all-stop : (n i : ℕ) → i < n → t i ≡ false → all t n ≡ false
+  pub all_stop : (n i : ℕ) → i < n → t i ≡ false → all t n ≡ false
   unfolding all
-  all-stop zero i h e = absurd (omega arith)
-  all-stop (suc n) i h e = ⊎_elim (λ q. both-second _ _ (rw (← q) e)) (λ l. both_first _ _ (all-stop n i l e)) (last_or_before h)
+  all_stop zero i h e = absurd (omega arith)
+  all_stop (suc n) i h e = ⊎_elim (λ q. both_second _ _ (rw (← q) e)) (λ l. both_first _ _ (all_stop n i l e)) (last_or_before h)
 
-  pub all-at : (n : ℕ) → all t n ≡ true → (i : ℕ) → i < n → t i ≡ true
+  pub all_at : (n : ℕ) → all t n ≡ true → (i : ℕ) → i < n → t i ≡ true
   unfolding all
-  all-at zero e i h = absurd (omega arith)
-  all-at (suc n) e i h = ⊎_elim (λ q. rw q (both_right _ _ e)) (λ l. all-at n (both_left _ _ e) i l) (last_or_before h)
+  all_at zero e i h = absurd (omega arith)
+  all_at (suc n) e i h = ⊎_elim (λ q. rw q (both_right _ _ e)) (λ l. all_at n (both_left _ _ e) i l) (last_or_before h)
 
   pub all_from : (n : ℕ) → ((i : ℕ) → i < n → t i ≡ true) → all t n ≡ true
   unfolding all
@@ -124,13 +124,13 @@ module _ {A : Type 0} (f : ℕ → A) where
   length-tabulate zero = refl
   length-tabulate (suc n) = omega (arith, length-append (tabulate f n) (f n ∷ []), length-tabulate n)
 
-  pub get_d_tabulate : (n i : ℕ) (d : A) → i < n → get_or (tabulate f n) i d ≡ f i
+  pub get_or-tabulate : (n i : ℕ) (d : A) → i < n → get_or (tabulate f n) i d ≡ f i
   unfolding tabulate
-  get_d_tabulate zero i d h = absurd (omega arith)
-  get_d_tabulate (suc n) i d h =
+  get_or-tabulate zero i d h = absurd (omega arith)
+  get_or-tabulate (suc n) i d h =
       ⊎_elim
       (λ q. rw q (get_or_at (tabulate f n) (f n) [] d n (length-tabulate n)))
-      (λ l. get_or-append (tabulate f n) (f n ∷ []) d i (omega (arith, length-tabulate n)) ∙ get_d_tabulate n i d l)
+      (λ l. get_or-append (tabulate f n) (f n ∷ []) d i (omega (arith, length-tabulate n)) ∙ get_or-tabulate n i d l)
       (last_or_before h)
 
 pub tabulate-same : {A : Type 0} (f g : ℕ → A) (n : ℕ) → ((i : ℕ) → i < n → f i ≡ g i) → tabulate f n ≡ tabulate g n

@@ -121,8 +121,8 @@ module _ {base at : ℕ} {rows before after : List ℕ} {done : ℕ} (f : Filled
 -- ---- a walk
 
 -- that writes nothing
-pub walks-none : {rows : List ℕ} (xs : List ℕ) → rows ≡ [] → Walked rows xs xs 0
-walks-none xs e = rw e (record { written = sym (over_none xs); number = refl })
+pub walks_none : {rows : List ℕ} (xs : List ℕ) → rows ≡ [] → Walked rows xs xs 0
+walks_none xs e = rw e (record { written = sym (over_none xs); number = refl })
 
 -- the values ws were written from 0 on
 pub walked : (base : ℕ) (rows ws : List ℕ) {before out : List ℕ} {n : ℕ} → rows ≡ ws → out ≡ sets before 0 (moved base ws) → length ws ≡ n → n ≤ length before → Walked (moved base rows) before out n

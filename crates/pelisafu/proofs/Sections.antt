@@ -27,9 +27,9 @@ abbrev none : ℕ → ℕ → Answer
 none rows limit = answered (pick {A = ℕ} (block_fits rows limit) 0 9) (0 ∷ [])
 
 module _ (rows limit count tag : ℕ) (body : List ℕ) where
-  pub none-counted : check_answer rows limit (section_of 0 count tag) body ≡ none rows limit
+  pub none_counted : check_answer rows limit (section_of 0 count tag) body ≡ none rows limit
   unfolding check_answer section_number deleted_of
-  none-counted = rw (is_empty count tag) (refl)
+  none_counted = rw (is_empty count tag) (refl)
 
   pub none_contained : (ordinal : ℕ) → contains_answer rows limit (section_of 0 count tag) body ordinal ≡ none rows limit
   unfolding contains_answer section_number deleted_of has pick

@@ -14,7 +14,7 @@ use Rattle.model.proofs.Tests.{either, pick_true, pick_false}
 use Rattle.planning.specs.Refusals.{ends_of, room_fits, early_number}
 use Rattle.planning.proofs.Dividing.{early_divided}
 use Rattle.planning.specs.Planning.{planned_segments, planned_offers, planned_form, planned_body, late_number, planned_values, plan_number, plan_of, plan_out, plan_work}
-use Rattle.planning.proofs.Accepted.{answered-none, answered-some}
+use Rattle.planning.proofs.Accepted.{answered_none, answered_some}
 
 module _ (start end : ℕ) (rows seeds : List ℕ) (limit words : ℕ) where
   -- a refusal 1 to 5
@@ -25,11 +25,11 @@ module _ (start end : ℕ) (rows seeds : List ℕ) (limit words : ℕ) where
 
     pub early_answer : refused k ≡ plan_of start end rows seeds limit words (length out)
     unfolding plan_of
-    early_answer = sym (rw early-number (answered-some k _ n))
+    early_answer = sym (rw early-number (answered_some k _ n))
 
-    pub early-out : out ≡ plan_out start end rows seeds limit words out
+    pub early_out : out ≡ plan_out start end rows seeds limit words out
     unfolding plan_out
-    early-out = sym (pick_false _ _ (ne_eqb _ _ (λ z. n (sym early-number ∙ z))))
+    early_out = sym (pick_false _ _ (ne_eqb _ _ (λ z. n (sym early-number ∙ z))))
 
     pub early_work : words ≡ length work → work ≡ plan_work start end rows seeds work
     unfolding plan_work
@@ -44,18 +44,18 @@ module _ (start end : ℕ) (rows seeds : List ℕ) (limit words : ℕ) where
     module _ (k : ℕ) (e : k ≡ late_number (planned_form start end rows seeds).bytes limit (length out)) where
       pub late_answer : (k ≡ 0 → ⊥) → refused k ≡ plan_of start end rows seeds limit words (length out)
       unfolding plan_of
-      late_answer n = sym (rw (late-number, ← e) (answered-some k _ n))
+      late_answer n = sym (rw (late-number, ← e) (answered_some k _ n))
 
-      pub late-out : (k ≡ 0 → ⊥) → out ≡ plan_out start end rows seeds limit words out
+      pub late_out : (k ≡ 0 → ⊥) → out ≡ plan_out start end rows seeds limit words out
       unfolding plan_out
-      late-out n = sym (pick_false _ _ (ne_eqb _ _ (λ z. n (e ∙ sym late-number ∙ z))))
+      late_out n = sym (pick_false _ _ (ne_eqb _ _ (λ z. n (e ∙ sym late-number ∙ z))))
 
       -- acceptance
       pub made_answer : k ≡ 0
           → accepted (planned_values (planned_form start end rows seeds) (length (planned_segments start rows seeds)) (planned_offers start rows seeds))
           ≡ plan_of start end rows seeds limit words (length out)
       unfolding plan_of
-      made_answer z = sym (answered-none _ _ (late-number ∙ sym e ∙ z))
+      made_answer z = sym (answered_none _ _ (late-number ∙ sym e ∙ z))
 
       pub made_out : k ≡ 0 → over (planned_body start end rows seeds) out ≡ plan_out start end rows seeds limit words out
       unfolding plan_out
@@ -70,22 +70,22 @@ module _ (start end : ℕ) (rows seeds : List ℕ) (limit words : ℕ) where
 
 module _ (start end : ℕ) (rows seeds : List ℕ) (words : ℕ) (ok : early_number start end rows seeds words ≡ 0) where
   -- it is enough for the tests
-  pub cut-early : (v : ℕ) → length (ends_of rows seeds) * 24 ≤ v → early_number start end rows seeds v ≡ 0
+  pub cut_early : (v : ℕ) → length (ends_of rows seeds) * 24 ≤ v → early_number start end rows seeds v ≡ 0
   unfolding early_number room_fits
-  cut-early v h = rw (le-leb (length (ends_of rows seeds) * 24) v h) (rw (le-leb (length (ends_of rows seeds) * 24) words (early_divided start end rows seeds words ok).room) at ok)
+  cut_early v h = rw (le-leb (length (ends_of rows seeds) * 24) v h) (rw (le-leb (length (ends_of rows seeds) * 24) words (early_divided start end rows seeds words ok).room) at ok)
 
   -- and changes nothing else
   module _ (v : ℕ) (less : early_number start end rows seeds v ≡ 0) (limit : ℕ) (out : List ℕ) where
-    cut-number : plan_number start end rows seeds limit v (length out) ≡ plan_number start end rows seeds limit words (length out)
-    cut-number = late-number start end rows seeds limit v less out ∙ sym (late-number start end rows seeds limit words ok out)
+    cut_number : plan_number start end rows seeds limit v (length out) ≡ plan_number start end rows seeds limit words (length out)
+    cut_number = late-number start end rows seeds limit v less out ∙ sym (late-number start end rows seeds limit words ok out)
 
     pub cut_answer : plan_of start end rows seeds limit v (length out) ≡ plan_of start end rows seeds limit words (length out)
     unfolding plan_of
-    cut_answer = rw cut-number
+    cut_answer = rw cut_number
 
     pub cut_out : plan_out start end rows seeds limit v out ≡ plan_out start end rows seeds limit words out
     unfolding plan_out
-    cut_out = rw cut-number
+    cut_out = rw cut_number
 
 -- a part that came back, written over
 pub over_back : (zs ys xs : List ℕ) (v : ℕ) → length zs ≡ v → length ys ≡ v → over zs (ys ++ drop v xs) ≡ over zs xs
@@ -95,7 +95,7 @@ over_back zs ys xs v e f =
     rw (e, seam)
 
 -- the first number of tests 6 and 7
-pub first-late : (bytes limit room : ℕ)
+pub first_late : (bytes limit room : ℕ)
     → pick (eqb (pick (both (leb bytes limit) (leb bytes 65535)) 0 6) 0) (pick (leb bytes room) 0 7) (pick (both (leb bytes limit) (leb bytes 65535)) 0 6) ≡ late_number bytes limit room
 unfolding late_number pick
-first-late bytes limit room = ⊎_elim (λ e. rw e) (λ e. rw e) (either (both (leb bytes limit) (leb bytes 65535)))
+first_late bytes limit room = ⊎_elim (λ e. rw e) (λ e. rw e) (either (both (leb bytes limit) (leb bytes 65535)))

@@ -19,9 +19,9 @@ use Rattle.planning.specs.Refusals.{ends_of}
 use Rattle.planning.specs.Planning.{planned_segments, planned_offers, planned_form, planned_body, late_number, planned_values}
 use Rattle.planning.proofs.Dividing.{Divided}
 use Rattle.planning.proofs.Narrow.{Parts, nothing, front, divided_narrow, plan_parts}
-use Rattle.planning.proofs.Holding.{narrow-seeds, narrow-offers, merged-held, held_slice}
+use Rattle.planning.proofs.Holding.{narrow_seeds, narrow_offers, merged_held, held_slice}
 use Rattle.planning.proofs.Linked.{plan_good}
-use Rattle.planning.proofs.Sound.{body-length, late_zero}
+use Rattle.planning.proofs.Sound.{body_length, late_zero}
 use Rattle.assemble.specs.Emission.{Writable, Laid}
 use Rattle.plan.specs.declared.Decision.{Decision}
 use Rattle.plan.specs.Merging.{Mergeable, Decided}
@@ -41,15 +41,15 @@ module _ {start end words : ℕ} {rows ends : List ℕ} (d : Divided start end r
       let k = divided_narrow d in
       let f : (i : ℕ) → i < length ends → stat_at (records (length ends) w) i ≡ stats_of (between (positions_of start rows) ends i (suc i)) = λ i h. sym (records_stat (length ends) w i (omega arith)) ∙ stats i h in
       record {
-        some = d.any-seeds;
-        most = omega (arith, d.few-seeds);
+        some = d.any_seeds;
+        most = omega (arith, d.few_seeds);
         room = room;
         wide = d.spans;
         rising = d.positions;
         rows = some;
-        seeds = narrow-seeds (positions_of start rows) ends k (stat_at (records (length ends) w)) f d.spans d.positions;
-        offers = narrow-offers (positions_of start rows) ends k (stat_at (records (length ends) w)) f;
-        held = λ w' l m. held_slice (merged-held (positions_of start rows) ends k (stat_at (records (length ends) w)) f (records (length ends) w') m);
+        seeds = narrow_seeds (positions_of start rows) ends k (stat_at (records (length ends) w)) f d.spans d.positions;
+        offers = narrow_offers (positions_of start rows) ends k (stat_at (records (length ends) w)) f;
+        held = λ w' l m. held_slice (merged_held (positions_of start rows) ends k (stat_at (records (length ends) w)) f (records (length ends) w') m);
       }
 
   pub mergeable : {span n : ℕ} {w : List ℕ} → span ≡ end - start → n ≡ length ends → length ends * 24 ≤ length w → ((i : ℕ) → i < n → stat_at w i ≡ stats_of (between (positions_of start rows) ends i (suc i)))
@@ -63,7 +63,7 @@ module _ {start end words : ℕ} {rows ends : List ℕ} (d : Divided start end r
   roomy {span} {c = c} limit room s k z =
       let segs = segments_of (positions_of start rows) ends in
       let late = late_zero _ limit room z in
-      let size : length (body_of span (positions_of start rows) segs) ≡ (form_for span (positions_of start rows) segs).bytes = rw s (body-length d.positions some (plan_good d)) in
+      let size : length (body_of span (positions_of start rows) segs) ≡ (form_for span (positions_of start rows) segs).bytes = rw s (body_length d.positions some (plan_good d)) in
       let same : length (layout_by c.form span (positions_of start rows) segs) ≡ c.form.bytes = rw k.form size in
       (omega (arith, same, late.2), omega (arith, same, late.1))
 
@@ -79,8 +79,8 @@ module _ {start end words : ℕ} {rows ends : List ℕ} (d : Divided start end r
         short = v.1;
       }
 
-  pub segments-few : {span n : ℕ} {w : List ℕ} {c : Decision} → Decided (positions_of start rows) ends span n w c → c.sum.segments ≤ 65535
-  segments-few k = omega (arith, k.sum.segments _ _ k.held, parts_few (plan_parts (positions_of start rows) ends (divided_narrow d)), length_positions start rows, d.few)
+  pub segments_few : {span n : ℕ} {w : List ℕ} {c : Decision} → Decided (positions_of start rows) ends span n w c → c.sum.segments ≤ 65535
+  segments_few k = omega (arith, k.sum.segments _ _ k.held, parts_few (plan_parts (positions_of start rows) ends (divided_narrow d)), length_positions start rows, d.few)
 
 -- what was decided is the plan's
 module _ (start end : ℕ) (rows seeds : List ℕ) {span n : ℕ} {w : List ℕ} {c : Decision} (s : span ≡ end - start) (k : Decided (positions_of start rows) (ends_of rows seeds) span n w c) where

@@ -16,9 +16,9 @@ use Rattle.plan.specs.Plans.{values_of, planned_of}
 abbrev pub body_from : List ℕ → Body
 body_from vs = record { tag = get_or vs 0 0; length = get_or vs 1 0; segments = get_or vs 2 0; offers = get_or vs 3 0 }
 
-pub planned-same : (a b : Planned) → planned_of a ≡ planned_of b → a ≡ b
+pub planned_same : (a b : Planned) → planned_of a ≡ planned_of b → a ≡ b
 unfolding planned_of values_of
-planned-same (Made a) (Made b) e = ap (λ (x : Answer). Made (body_from x.values)) e
-planned-same (Made a) (Refused k) e = absurd (omega (arith, same_size e))
-planned-same (Refused k) (Made b) e = absurd (omega (arith, same_size e))
-planned-same (Refused k) (Refused m) e = ap Refused (same_number e)
+planned_same (Made a) (Made b) e = ap (λ (x : Answer). Made (body_from x.values)) e
+planned_same (Made a) (Refused k) e = absurd (omega (arith, same_size e))
+planned_same (Refused k) (Made b) e = absurd (omega (arith, same_size e))
+planned_same (Refused k) (Refused m) e = ap Refused (same_number e)

@@ -20,8 +20,8 @@ use Rattle.seeds.specs.Placed.{Seeded, Placed}
 use Rattle.assemble.specs.Emission.{Writable, Laid}
 use Rattle.plan.specs.declared.Decision.{Decision}
 use Rattle.plan.specs.Merging.{Mergeable, Decided}
-use Rattle.plan.proofs.Ready.{mergeable, roomy, writable, segments-few, decided_late, decided_values, decided_body}
-use Rattle.plan.proofs.Answers.{early_answer, early-out, early_work, cut-early, late_answer, late-out, made_answer, made_out, cut_answer, cut_out, over_back, cleared}
+use Rattle.plan.proofs.Ready.{mergeable, roomy, writable, segments_few, decided_late, decided_values, decided_body}
+use Rattle.plan.proofs.Answers.{early_answer, early_out, early_work, cut_early, late_answer, late_out, made_answer, made_out, cut_answer, cut_out, over_back, cleared}
 
 -- ---- in the workspace that the seeds need: the seeds are put there, merged, and the form is chosen
 
@@ -41,7 +41,7 @@ module _ (start end : ℕ) (rows seeds : List ℕ) (n : ℕ) (w : List ℕ) (t :
     covered = divided.covered;
     fits = early-given start end rows seeds (length w) t.0;
     number = t.1;
-    room = omega (arith, divided.room, t.1, divided.any-seeds);
+    room = omega (arith, divided.room, t.1, divided.any_seeds);
   }
 
   pub seeded : (span : ℕ) → span ≡ end - start → (w' : List ℕ) → Placed start rows seeds n w w' → Mergeable (positions_of start rows) (ends_of rows seeds) span n w'
@@ -70,7 +70,7 @@ module _ {start end : ℕ} {rows seeds : List ℕ} {words n span : ℕ} {w : Lis
 
   -- 6 and 7
   pub late-refused : (j ≡ 0 → ⊥) → (refused j ≡ plan_of start end rows seeds limit words (length out)) × (out ≡ plan_out start end rows seeds limit words out)
-  late-refused some = (late_answer start end rows seeds limit words c.early out j number some, late-out start end rows seeds limit words c.early out j number some)
+  late-refused some = (late_answer start end rows seeds limit words c.early out j number some, late_out start end rows seeds limit words c.early out j number some)
 
   -- acceptance
   module _ (none : j ≡ 0) where
@@ -80,12 +80,12 @@ module _ {start end : ℕ} {rows seeds : List ℕ} {words n span : ℕ} {w : Lis
     pub body_writable : Writable n w start rows span d.form d.sum (length out)
     body_writable = writable (early_divided _ _ _ _ _ c.early) limit (length out) c.spans c.few c.room c.decided met
 
-    pub body-small : (d.form.bytes ≤ 65535) × (d.sum.segments ≤ 65535) × (d.offers ≤ 4294967295)
-    body-small = ((late_zero d.form.bytes limit (length out) met).1, segments-few (early_divided _ _ _ _ _ c.early) c.decided, omega (arith, c.decided.most, c.few))
+    pub body_small : (d.form.bytes ≤ 65535) × (d.sum.segments ≤ 65535) × (d.offers ≤ 4294967295)
+    body_small = ((late_zero d.form.bytes limit (length out) met).1, segments_few (early_divided _ _ _ _ _ c.early) c.decided, omega (arith, c.decided.most, c.few))
 
-    pub body-planned : {answer : Answer} {left : List ℕ} {r : ℕ} → answer ≡ accepted (planned_values d.form d.sum.segments d.offers) → Laid n w start rows span d.form out left r
+    pub body_planned : {answer : Answer} {left : List ℕ} {r : ℕ} → answer ≡ accepted (planned_values d.form d.sum.segments d.offers) → Laid n w start rows span d.form out left r
         → (answer ≡ plan_of start end rows seeds limit words (length out)) × (left ≡ plan_out start end rows seeds limit words out)
-    body-planned a l = (
+    body_planned a l = (
       a ∙ decided_values start end rows seeds c.spans c.decided ∙ made_answer start end rows seeds limit words c.early out j number none,
       decided_body start end rows seeds c.spans c.decided (roomy (early_divided _ _ _ _ _ c.early) limit (length out) c.spans c.decided met).0 l ∙ made_out start end rows seeds limit words c.early out j number none,
     )
@@ -99,11 +99,11 @@ module _ {start end : ℕ} {rows seeds : List ℕ} {words : ℕ} {r : Early} (j 
       × ((out ≡ plan_out start end rows seeds limit words out) × (work ≡ plan_work start end rows seeds work))
   early-refused limit out work e some = (
     early_answer start end rows seeds limit words r.number out work j.number some,
-    (early-out start end rows seeds limit words r.number out work j.number some, early_work start end rows seeds limit words r.number out work j.number some e),
+    (early_out start end rows seeds limit words r.number out work j.number some, early_work start end rows seeds limit words r.number out work j.number some e),
   )
 
-  pub seeds-few : r.number ≡ 0 → r.seeds ≤ 65535
-  seeds-few none = omega (arith, j.count none, (early_divided start end rows seeds words (sym j.number ∙ none)).few-seeds)
+  pub seeds_few : r.number ≡ 0 → r.seeds ≤ 65535
+  seeds_few none = omega (arith, j.count none, (early_divided start end rows seeds words (sym j.number ∙ none)).few_seeds)
 
 -- v words of the workspace, 24 for each of the n seeds
 pub record Lent (start end : ℕ) (rows seeds work : List ℕ) (n v : ℕ) : Type 0 where
@@ -122,7 +122,7 @@ module _ {start end : ℕ} {rows seeds work : List ℕ} {n v : ℕ} (k : Lent st
   size = mid_len 0 v work lent_inside ∙ sub-zero v
 
   pub lent_tested : Tested start end rows seeds n (take (v - 0) work)
-  lent_tested = (cut-early start end rows seeds (length work) k.early (length (take (v - 0) work)) (omega (arith, size, k.words, k.count)), k.count)
+  lent_tested = (cut_early start end rows seeds (length work) k.early (length (take (v - 0) work)) (omega (arith, size, k.words, k.count)), k.count)
 
   module _ (back : List ℕ) (same : length back ≡ length (take (v - 0) work)) where
     pub back_room : (rest : List ℕ) → n * 24 ≤ length (back ++ rest)

@@ -20,16 +20,16 @@ use Rattle.planning.specs.Refusals.{early_number, ends_of}
 use Rattle.planning.specs.Planning.{planned_segments, planned_offers, planned_form, planned_body, planned_values, answered, plan_number, plan_of, plan_out}
 use Rattle.planning.proofs.Dividing.{Divided, early_divided}
 use Rattle.planning.proofs.Linked.{plan_good}
-use Rattle.planning.proofs.Choosing.{chosen-short}
-use Rattle.planning.proofs.Sound.{body-length, body-holds, late_zero, plan_early, plan_late}
+use Rattle.planning.proofs.Choosing.{chosen_short}
+use Rattle.planning.proofs.Sound.{body_length, body_holds, late_zero, plan_early, plan_late}
 
 -- the body of rows that pass the tests before merging is as long as its form says
-pub planned-size : (start end : ℕ) (rows seeds : List ℕ) (words : ℕ) → early_number start end rows seeds words ≡ 0
+pub planned_size : (start end : ℕ) (rows seeds : List ℕ) (words : ℕ) → early_number start end rows seeds words ≡ 0
     → length (planned_body start end rows seeds) ≡ (planned_form start end rows seeds).bytes
 unfolding planned_form planned_body planned_segments
-planned-size start end rows seeds words ok =
+planned_size start end rows seeds words ok =
     let d = early_divided start end rows seeds words ok in
-    body-length d.positions (rw length_positions d.some) (plan_good d)
+    body_length d.positions (rw length_positions d.some) (plan_good d)
 
 pub record Planned (start end : ℕ) (rows seeds : List ℕ) (limit room : ℕ) : Type 0 where
   pub sized : length (planned_body start end rows seeds) ≡ (planned_form start end rows seeds).bytes
@@ -47,29 +47,29 @@ module _ (start end : ℕ) (rows seeds : List ℕ) (limit words room : ℕ) (ok 
   unfolding planned_form planned_body planned_segments
   planned =
       let d = plan_divided in
-      let size = planned-size start end rows seeds words (plan_early start end rows seeds limit words room ok) in
+      let size = planned_size start end rows seeds words (plan_early start end rows seeds limit words room ok) in
       let late = late_zero (planned_form start end rows seeds).bytes limit room (plan_late start end rows seeds limit words room ok) in
       record {
         sized = size;
         in_limit = omega (arith, size, late.0);
         short = omega (arith, size, late.1);
         in_room = omega (arith, size, late.2);
-        least = omega (arith, size, chosen-short (end - start) (positions_of start rows) (planned_segments start rows seeds));
-        holds = body-holds d.positions (rw length_positions d.some) (plan_good d) (rw length_positions d.few) d.spans (omega (arith, size, late.1));
+        least = omega (arith, size, chosen_short (end - start) (positions_of start rows) (planned_segments start rows seeds));
+        holds = body_holds d.positions (rw length_positions d.some) (plan_good d) (rw length_positions d.few) d.spans (omega (arith, size, late.1));
       }
 
 -- ---- the answer and the output
 
-pub answered-none : (n : ℕ) (values : List ℕ) → n ≡ 0 → answered n values ≡ accepted values
+pub answered_none : (n : ℕ) (values : List ℕ) → n ≡ 0 → answered n values ≡ accepted values
 unfolding answered
-answered-none n values e = pick_true _ _ (eq-eqb n 0 e)
+answered_none n values e = pick_true _ _ (eq-eqb n 0 e)
 
-pub answered-some : (n : ℕ) (values : List ℕ) → (n ≡ 0 → ⊥) → answered n values ≡ refused n
+pub answered_some : (n : ℕ) (values : List ℕ) → (n ≡ 0 → ⊥) → answered n values ≡ refused n
 unfolding answered
-answered-some n values o = pick_false _ _ (ne_eqb n 0 o)
+answered_some n values o = pick_false _ _ (ne_eqb n 0 o)
 
 pub answered-number : (n : ℕ) (values : List ℕ) → (answered n values).number ≡ n
-answered-number n values = ⊎_elim (λ e. rw (answered-none n values e) (sym e)) (λ o. rw (answered-some n values o)) (same_or_not n 0)
+answered-number n values = ⊎_elim (λ e. rw (answered_none n values e) (sym e)) (λ o. rw (answered_some n values o)) (same_or_not n 0)
 
 -- the answer's number is the plan's, and where it is 0 its values are those of the form
 pub plan_number_lem : (start end : ℕ) (rows seeds : List ℕ) (limit words room : ℕ) → (plan_of start end rows seeds limit words room).number ≡ plan_number start end rows seeds limit words room
@@ -79,7 +79,7 @@ plan_number_lem start end rows seeds limit words room = answered-number (plan_nu
 pub plan_accepted : (start end : ℕ) (rows seeds : List ℕ) (limit words room : ℕ) → plan_number start end rows seeds limit words room ≡ 0
     → plan_of start end rows seeds limit words room ≡ accepted (planned_values (planned_form start end rows seeds) (length (planned_segments start rows seeds)) (planned_offers start rows seeds))
 unfolding plan_of
-plan_accepted start end rows seeds limit words room ok = answered-none _ _ ok
+plan_accepted start end rows seeds limit words room ok = answered_none _ _ ok
 
 -- the bytes that the answer counts, at the front of the output, are the body
 pub output_holds : (start end : ℕ) (rows seeds : List ℕ) (limit words : ℕ) (out : List ℕ) → plan_number start end rows seeds limit words (length out) ≡ 0

@@ -16,27 +16,27 @@ use Rattle.stats.specs.Statistics.{stats_of}
 use Rattle.cost.specs.declared.Form.{Form}
 use Rattle.cost.specs.Forms.{lex, dense_form, items_form, bitmap_form, whole_form}
 use Rattle.cost.proofs.Least.{less_head}
-use Rattle.cost.proofs.Chosen.{Whole, dense, list32, list16, runs16, runs32, bitmap, trimmed-bitmap, missing, trimmed-missing, whole-chosen}
+use Rattle.cost.proofs.Chosen.{Whole, dense, list32, list16, runs16, runs32, bitmap, trimmed_bitmap, missing, trimmed_missing, whole_chosen}
 use Rattle.single.specs.Layout.{single_layout}
 use Rattle.planning.specs.Segments.{stats_each}
 use Rattle.planning.specs.Bodies.{segmented_form, choice_key, chosen, form_for, segmented_layout, layout_by, body_of}
 
 -- ---- a whole form is of the tags 1 to 8
 
-each-tag : {s : Stats} {span : ℕ} (f : Form) → Whole s span f → f.tag ≤ 8
+each_tag : {s : Stats} {span : ℕ} (f : Form) → Whole s span f → f.tag ≤ 8
 unfolding dense_form items_form bitmap_form
-each-tag _ (dense e) = omega arith
-each-tag _ list32 = omega arith
-each-tag _ (list16 h) = omega arith
-each-tag _ (runs16 h) = omega arith
-each-tag _ (runs32 h) = omega arith
-each-tag _ bitmap = omega arith
-each-tag _ trimmed-bitmap = omega arith
-each-tag _ (missing h) = omega arith
-each-tag _ (trimmed-missing h) = omega arith
+each_tag _ (dense e) = omega arith
+each_tag _ list32 = omega arith
+each_tag _ (list16 h) = omega arith
+each_tag _ (runs16 h) = omega arith
+each_tag _ (runs32 h) = omega arith
+each_tag _ bitmap = omega arith
+each_tag _ trimmed_bitmap = omega arith
+each_tag _ (missing h) = omega arith
+each_tag _ (trimmed_missing h) = omega arith
 
-pub whole-tag : (s : Stats) (span : ℕ) → (whole_form s span).tag ≤ 8
-whole-tag s span = each-tag (whole_form s span) (whole-chosen s span)
+pub whole_tag : (s : Stats) (span : ℕ) → (whole_form s span).tag ≤ 8
+whole_tag s span = each_tag (whole_form s span) (whole_chosen s span)
 
 module _ (span : ℕ) (xs : List ℕ) (segs : List (List ℕ)) where
   abbrev whole : Form
@@ -56,33 +56,33 @@ module _ (span : ℕ) (xs : List ℕ) (segs : List (List ℕ)) where
   unfolding layout_by segmented_form pick
   segmented_body = refl
 
-  whole-body : layout_by whole span xs segs ≡ single_layout whole.tag whole.trimmed span xs
+  whole_body : layout_by whole span xs segs ≡ single_layout whole.tag whole.trimmed span xs
   unfolding layout_by
-  whole-body = pick_false _ _ (ne_eqb whole.tag 9 (λ q. omega (arith, whole-tag (stats_of xs) span)))
+  whole_body = pick_false _ _ (ne_eqb whole.tag 9 (λ q. omega (arith, whole_tag (stats_of xs) span)))
 
   pub choice : Choice (form_for span xs segs) (body_of span xs segs)
   unfolding form_for body_of chosen
   choice =
       ⊎_elim
       (λ e. rw (pick_true segmented whole e, segmented_body) (in_segments e))
-      (λ e. rw (pick_false segmented whole e, whole-body) (as_whole e))
+      (λ e. rw (pick_false segmented whole e, whole_body) (as_whole e))
       (either (lex (choice_key segmented (length segs)) (choice_key whole 1)))
 
   -- ---- so it is never longer than the cheapest whole form
 
-  each-short : (f : Form) (body : List ℕ) → Choice f body → f.bytes ≤ whole.bytes
+  each_short : (f : Form) (body : List ℕ) → Choice f body → f.bytes ≤ whole.bytes
   unfolding choice_key
-  each-short _ _ (in_segments e) = less_head _ _ _ _ e
-  each-short _ _ (as_whole e) = le_refl whole.bytes
+  each_short _ _ (in_segments e) = less_head _ _ _ _ e
+  each_short _ _ (as_whole e) = le_refl whole.bytes
 
-  pub chosen-short : (form_for span xs segs).bytes ≤ (whole_form (stats_of xs) span).bytes
-  chosen-short = each-short (form_for span xs segs) (body_of span xs segs) choice
+  pub chosen_short : (form_for span xs segs).bytes ≤ (whole_form (stats_of xs) span).bytes
+  chosen_short = each_short (form_for span xs segs) (body_of span xs segs) choice
 
   -- the tag says which
-  each-form : (f : Form) (body : List ℕ) → Choice f body → ((f.tag ≡ 9) × (f ≡ segmented)) ⊎ ((f.tag ≤ 8) × (f ≡ whole))
+  each_form : (f : Form) (body : List ℕ) → Choice f body → ((f.tag ≡ 9) × (f ≡ segmented)) ⊎ ((f.tag ≤ 8) × (f ≡ whole))
   unfolding segmented_form
-  each-form _ _ (in_segments e) = inl (refl, refl)
-  each-form _ _ (as_whole e) = inr (whole-tag (stats_of xs) span, refl)
+  each_form _ _ (in_segments e) = inl (refl, refl)
+  each_form _ _ (as_whole e) = inr (whole_tag (stats_of xs) span, refl)
 
-  pub chosen-form : (((form_for span xs segs).tag ≡ 9) × (form_for span xs segs ≡ segmented_form (stats_each segs))) ⊎ (((form_for span xs segs).tag ≤ 8) × (form_for span xs segs ≡ whole_form (stats_of xs) span))
-  chosen-form = each-form (form_for span xs segs) (body_of span xs segs) choice
+  pub chosen_form : (((form_for span xs segs).tag ≡ 9) × (form_for span xs segs ≡ segmented_form (stats_each segs))) ⊎ (((form_for span xs segs).tag ≤ 8) × (form_for span xs segs ≡ whole_form (stats_of xs) span))
+  chosen_form = each_form (form_for span xs segs) (body_of span xs segs) choice

@@ -15,7 +15,7 @@ use lib.Seq.{length-take-le, take_all, take-add, drop-drop, get_or-take, get_or-
 use borrow.Author.Tests.{ltb-true, leb-true, eqb-true}
 use Rattle.model.specs.Lists.{Rising, positions_of}
 use Rattle.model.proofs.Rising.{rising_wider, rising_tests}
-use Rattle.model.proofs.Tests.{both_left, both_right, all-at, pick_true, pick_false, either}
+use Rattle.model.proofs.Tests.{both_left, both_right, all_at, pick_true, pick_false, either}
 use Rattle.model.proofs.Writing.{over-take}
 use Rattle.stats.specs.Rows.{Covered}
 use Rattle.model.proofs.Positions.{positions_rising}
@@ -46,18 +46,18 @@ climbs s n up l (suc m) h k =
     (eq-or-lt_of_le h)
 
 -- test 4, seed by seed
-pub seed-fits : (rows ends : List ℕ) → seeds_fit rows ends ≡ true → (i : ℕ) → i < length ends → seed_at rows ends i ≡ true
+pub seed_fits : (rows ends : List ℕ) → seeds_fit rows ends ≡ true → (i : ℕ) → i < length ends → seed_at rows ends i ≡ true
 unfolding seeds_fit
-seed-fits rows ends e = all-at (seed_at rows ends) (length ends) (both_left _ _ e)
+seed_fits rows ends e = all_at (seed_at rows ends) (length ends) (both_left _ _ e)
 
 -- a seed has a row, and its last − first is at most 65,534
-pub seed-some : (rows ends : List ℕ) → seeds_fit rows ends ≡ true → (i : ℕ) → i < length ends → start_of ends i < start_of ends (suc i)
+pub seed_some : (rows ends : List ℕ) → seeds_fit rows ends ≡ true → (i : ℕ) → i < length ends → start_of ends i < start_of ends (suc i)
 unfolding seed_at start_of
-seed-some rows ends e i h = ltb-true _ _ (both_left _ _ (seed-fits rows ends e i h))
+seed_some rows ends e i h = ltb-true _ _ (both_left _ _ (seed_fits rows ends e i h))
 
-pub seed-near : (rows ends : List ℕ) → seeds_fit rows ends ≡ true → (i : ℕ) → i < length ends → get_or rows (start_of ends (suc i) - 1) 0 - get_or rows (start_of ends i) 0 ≤ 65534
+pub seed_near : (rows ends : List ℕ) → seeds_fit rows ends ≡ true → (i : ℕ) → i < length ends → get_or rows (start_of ends (suc i) - 1) 0 - get_or rows (start_of ends i) 0 ≤ 65534
 unfolding seed_at start_of
-seed-near rows ends e i h = leb-true _ _ (both_right _ _ (seed-fits rows ends e i h))
+seed_near rows ends e i h = leb-true _ _ (both_right _ _ (seed_fits rows ends e i h))
 
 last_start_lem : (rows ends : List ℕ) → seeds_fit rows ends ≡ true → 1 ≤ length rows → (1 ≤ length ends) × (start_of ends (length ends) ≡ length rows)
 unfolding seeds_fit start_of
@@ -69,7 +69,7 @@ last_start_lem rows (x ∷ xs) e h =
 pub fit_divides : (rows ends : List ℕ) → seeds_fit rows ends ≡ true → 1 ≤ length rows → Divides (length rows) ends
 fit_divides rows ends e h =
     let o = last_start_lem rows ends e h in
-    record { some = o.0; rise = climbs (start_of ends) (length ends) (seed-some rows ends e); full = o.1 }
+    record { some = o.0; rise = climbs (start_of ends) (length ends) (seed_some rows ends e); full = o.1 }
 
 -- no more seeds than rows
 pub divides_few : (total : ℕ) (ends : List ℕ) → Divides total ends → length ends ≤ total
@@ -100,23 +100,23 @@ part_none xs a = let e : a - a ≡ 0 = omega arith in rw e
 -- ---- rows between cuts
 
 module _ (xs ends : List ℕ) (d : Divides (length xs) ends) where
-  pub start-inside : (l : ℕ) → l ≤ length ends → start_of ends l ≤ length xs
-  start-inside l h = omega (arith, d.rise l (length ends) h (omega arith), d.full)
+  pub start_inside : (l : ℕ) → l ≤ length ends → start_of ends l ≤ length xs
+  start_inside l h = omega (arith, d.rise l (length ends) h (omega arith), d.full)
 
-  pub between-some : (l m : ℕ) → l < m → m ≤ length ends → 1 ≤ length (between xs ends l m)
+  pub between_some : (l m : ℕ) → l < m → m ≤ length ends → 1 ≤ length (between xs ends l m)
   unfolding between
-  between-some l m h k =
+  between_some l m h k =
       let up = d.rise l m (omega arith) k in
-      rw (part_length xs (start_of ends l) (start_of ends m) (omega arith) (start-inside m k)) (omega arith)
+      rw (part_length xs (start_of ends l) (start_of ends m) (omega arith) (start_inside m k)) (omega arith)
 
-  pub between-cut : (l m r : ℕ) → l ≤ m → m ≤ r → r ≤ length ends → between xs ends l r ≡ between xs ends l m ++ between xs ends m r
+  pub between_cut : (l m r : ℕ) → l ≤ m → m ≤ r → r ≤ length ends → between xs ends l r ≡ between xs ends l m ++ between xs ends m r
   unfolding between
-  between-cut l m r h k b =
+  between_cut l m r h k b =
       part_cut xs (start_of ends l) (start_of ends m) (start_of ends r) (omega (arith, d.rise l m h (omega arith))) (omega (arith, d.rise m r k b))
 
-  pub between-whole : between xs ends 0 (length ends) ≡ xs
+  pub between_whole : between xs ends 0 (length ends) ≡ xs
   unfolding between part start_of
-  between-whole = rw d.full (take_all (length xs - 0) xs (omega arith))
+  between_whole = rw d.full (take_all (length xs - 0) xs (omega arith))
 
 -- the rows from the cut x on
 abbrev pub ahead : List ℕ → List ℕ → ℕ → List ℕ
@@ -127,7 +127,7 @@ unfolding between
 ahead_none xs ends x e = rw e (part_none xs (start_of ends (length ends)))
 
 pub ahead_cut : (xs ends : List ℕ) → Divides (length xs) ends → (x y : ℕ) → x < y → y ≤ length ends → ahead xs ends x ≡ between xs ends x y ++ ahead xs ends y
-ahead_cut xs ends d x y p h = between-cut xs ends d x y (length ends) (omega arith) h (omega arith)
+ahead_cut xs ends d x y p h = between_cut xs ends d x y (length ends) (omega arith) h (omega arith)
 
 -- ---- the ends that planning takes
 
@@ -140,9 +140,9 @@ windows-fit rows h k =
     let fill = all_keeps rows none (windows rows) [] (gathers_none none (windows rows) refl refl) counts (omega (arith, made.1)) in
     rw (made.0, made.1, over-take) at (gathers_fit (added_all none rows) (added_all_to (windows rows) none rows) rows fill)
 
-pub ends-fit : (rows seeds : List ℕ) → 1 ≤ length rows → length rows ≤ 65535 → given_fit rows seeds ≡ true → seeds_fit rows (ends_of rows seeds) ≡ true
+pub ends_fit : (rows seeds : List ℕ) → 1 ≤ length rows → length rows ≤ 65535 → given_fit rows seeds ≡ true → seeds_fit rows (ends_of rows seeds) ≡ true
 unfolding given_fit ends_of
-ends-fit rows seeds h k g =
+ends_fit rows seeds h k g =
     ⊎_elim
     (λ e. rw (pick_true (windows rows) seeds e) (windows-fit rows h k))
     (λ e. rw (pick_false (windows rows) seeds e) (sym (pick_false true (seeds_fit rows seeds) e) ∙ g))
@@ -153,7 +153,7 @@ ends-fit rows seeds h k g =
 -- a list that passes the test rises at each step
 pub rises_next : (rows : List ℕ) → rises rows ≡ true → (i : ℕ) → i < length rows - 1 → get_or rows i 0 < get_or rows (suc i) 0
 unfolding rises up_at
-rises_next rows e i h = rw (← add-one i) (ltb-true (get_or rows i 0) (get_or rows (i + 1) 0) (all-at (up_at rows) (length rows - 1) e i h))
+rises_next rows e i h = rw (← add-one i) (ltb-true (get_or rows i 0) (get_or rows (i + 1) 0) (all_at (up_at rows) (length rows - 1) e i h))
 
 rows_rise : (start end : ℕ) (rows : List ℕ) → rows_fit start end rows ≡ true → Rising start end rows
 unfolding rows_fit
@@ -177,8 +177,8 @@ pub record Divided (start end : ℕ) (rows ends : List ℕ) (words : ℕ) : Type
   pub covered : Covered start rows
   pub positions : Rising 0 (end - start) (positions_of start rows)
   pub fit : seeds_fit rows ends ≡ true
-  pub any-seeds : 1 ≤ length ends
-  pub few-seeds : length ends ≤ 65535
+  pub any_seeds : 1 ≤ length ends
+  pub few_seeds : length ends ≤ 65535
   pub room : length ends * 24 ≤ words
 
 -- the tests, each met
@@ -205,7 +205,7 @@ early_divided start end rows seeds words e =
     let some = leb-true 1 (length rows) (both_left _ _ t.1) in
     let few = leb-true (length rows) 65535 (both_right _ _ t.1) in
     let rising = rows_rise start end rows t.2 in
-    let fit = ends-fit rows seeds some few t.3 in
+    let fit = ends_fit rows seeds some few t.3 in
     let d = fit_divides rows (ends_of rows seeds) fit some in
     let z : start - start ≡ 0 = omega arith in
     record {
@@ -217,7 +217,7 @@ early_divided start end rows seeds words e =
       covered = record { some = some; rising = rising_wider (le_refl start) (omega arith) rising };
       positions = rw z at (positions_rising start (le_refl start) rising);
       fit = fit;
-      any-seeds = d.some;
-      few-seeds = omega (arith, divides_few (length rows) (ends_of rows seeds) d);
+      any_seeds = d.some;
+      few_seeds = omega (arith, divides_few (length rows) (ends_of rows seeds) d);
       room = leb-true (length (ends_of rows seeds) * 24) words t.4;
     }

@@ -14,11 +14,11 @@ use Rattle.links.specs.Pairs.{Seeds}
 use Rattle.links.specs.Tables.{records, next, stat_at}
 use Rattle.merge.specs.Steps.{offers_of, Merged}
 use Rattle.links.proofs.Tables.{records-field, records_stat}
-use Rattle.merge.proofs.Rows.{segment_rows, cuts-rows, offers-rows, rows-seeds}
+use Rattle.merge.proofs.Rows.{segment_rows, cuts_rows, offers_rows, rows_seeds}
 use Rattle.planning.specs.Segments.{between, cuts_left, offers_for, pieces, segments_of}
 use Rattle.planning.specs.Held.{Held, end, more}
-use Rattle.planning.proofs.Dividing.{between-some, between-cut, between-whole, ahead, ahead_none, ahead_cut}
-use Rattle.planning.proofs.Narrow.{Through, last, step, through_inside, Slim, Narrow, cuts-narrow, Parts, nothing, front}
+use Rattle.planning.proofs.Dividing.{between_some, between_cut, between_whole, ahead, ahead_none, ahead_cut}
+use Rattle.planning.proofs.Narrow.{Through, last, step, through_inside, Slim, Narrow, cuts_narrow, Parts, nothing, front}
 
 -- ---- what holds of them
 
@@ -57,15 +57,15 @@ held_same h k = held_go h k refl
 -- ---- the records that merging leaves
 
 module _ (xs ends : List ℕ) (k : Narrow xs ends) (f : ℕ → Stats) (seeds : (i : ℕ) → i < length ends → f i ≡ stats_of (between xs ends i (suc i))) where
-  cut-rows : (l m r : ℕ) → l < m → m < r → r ≤ length ends → between xs ends l r ≡ between xs ends l m ++ between xs ends m r
-  cut-rows l m r p q h = between-cut xs ends k.divides l m r (omega arith) (omega arith) h
+  cut_rows_lem : (l m r : ℕ) → l < m → m < r → r ≤ length ends → between xs ends l r ≡ between xs ends l m ++ between xs ends m r
+  cut_rows_lem l m r p q h = between_cut xs ends k.divides l m r (omega arith) (omega arith) h
 
-  pub narrow-offers : offers_of f (length ends) ≡ offers_for xs ends
+  pub narrow_offers : offers_of f (length ends) ≡ offers_for xs ends
   unfolding offers_for
-  narrow-offers = offers-rows (length ends) (between xs ends) (between-some xs ends k.divides) cut-rows f seeds
+  narrow_offers = offers_rows (length ends) (between xs ends) (between_some xs ends k.divides) cut_rows_lem f seeds
 
-  pub narrow-seeds : {b : ℕ} → b ≤ 4294967295 → Rising 0 b xs → Seeds f (length ends)
-  narrow-seeds h ri = rows-seeds (length ends) (between xs ends) (between-some xs ends k.divides) cut-rows f seeds h (rw (between-whole xs ends k.divides) ri)
+  pub narrow_seeds : {b : ℕ} → b ≤ 4294967295 → Rising 0 b xs → Seeds f (length ends)
+  narrow_seeds h ri = rows_seeds (length ends) (between xs ends) (between_some xs ends k.divides) cut_rows_lem f seeds h (rw (between_whole xs ends k.divides) ri)
 
   module _ (t : List ℕ) (m : Merged f (length ends) t) where
     held_through : {x : ℕ} {cs : List ℕ} → Through (Slim xs ends) (length ends) x cs → Chain (next t) (x ∷ cs) → Held (length ends) t x (ahead xs ends x) (pieces (between xs ends) (x ∷ cs))
@@ -73,12 +73,12 @@ module _ (xs ends : List ℕ) (k : Narrow xs ends) (f : ℕ → Stats) (seeds : 
     held_through {x} (last e) ch = end e (ahead_none xs ends x e)
     held_through {x} (step {y = y} {cs = cs} p q s) (link e ch) =
         let h = through_inside s in
-        let stat : stat_at t x ≡ stats_of (between xs ends x y) = m.stats x y e (omega arith) ∙ segment_rows (length ends) (between xs ends) (between-some xs ends k.divides) cut-rows f seeds x y p h in
-        more {x = x} {rest = ahead xs ends y} {segs = pieces (between xs ends) (y ∷ cs)} (ahead_cut xs ends k.divides x y p h) (rw e p) (rw e h) (between-some xs ends k.divides x y p h) q stat (rw e (held_through s ch))
+        let stat : stat_at t x ≡ stats_of (between xs ends x y) = m.stats x y e (omega arith) ∙ segment_rows (length ends) (between xs ends) (between_some xs ends k.divides) cut_rows_lem f seeds x y p h in
+        more {x = x} {rest = ahead xs ends y} {segs = pieces (between xs ends) (y ∷ cs)} (ahead_cut xs ends k.divides x y p h) (rw e p) (rw e h) (between_some xs ends k.divides x y p h) q stat (rw e (held_through s ch))
 
-    pub merged-held : Held (length ends) t 0 xs (segments_of xs ends)
+    pub merged_held : Held (length ends) t 0 xs (segments_of xs ends)
     unfolding segments_of cuts_left
-    merged-held =
-        let o = cuts-narrow xs ends k in
-        let same = cuts-rows (length ends) (between xs ends) (between-some xs ends k.divides) cut-rows f seeds ∙ o.cuts in
-        rw o.cuts (rw (between-whole xs ends k.divides) at (held_through o.through (rw same at m.cuts)))
+    merged_held =
+        let o = cuts_narrow xs ends k in
+        let same = cuts_rows (length ends) (between xs ends) (between_some xs ends k.divides) cut_rows_lem f seeds ∙ o.cuts in
+        rw o.cuts (rw (between_whole xs ends k.divides) at (held_through o.through (rw same at m.cuts)))

@@ -9,9 +9,9 @@ use lib.ListN.{length, get_or, length-append}
 use Rattle.model.specs.Tests.{flat, total}
 use Rattle.model.specs.Lists.{Rising, positions_of}
 use Rattle.model.proofs.Tests.{flat-same, flat_length_step}
-use Rattle.model.proofs.Sums.{flat-total, total-within, total-le, total-same}
+use Rattle.model.proofs.Sums.{flat-total, total_within, total-le, total-same}
 use Rattle.model.proofs.Positions.{length_positions}
-use Rattle.model.proofs.Rising.{rising-from, rising-below, rising_strict, rising_tests}
+use Rattle.model.proofs.Rising.{rising_from, rising_below, rising_strict, rising_tests}
 use Rattle.model.proofs.Pieces.{pieces_select, flat_length_le}
 use Rattle.single.specs.Layout.{first_of, extent_of}
 use Rattle.directory.specs.Directory.{directory_size}
@@ -19,11 +19,11 @@ use Rattle.directory.specs.Layout.{directory_layout}
 use Rattle.directory.proofs.LaidOut.{length_layout}
 use Rattle.segmented.specs.Segmented.{segmented_accepts, segmented_names}
 use Rattle.segmented.specs.Cuts.{Segment, payload, entries_for, cut_layout, cut_rows, SegmentFits, CutFits}
-use Rattle.segmented.proofs.CutOut.{cut-accepted, cut-named}
+use Rattle.segmented.proofs.CutOut.{cut_accepted, cut_named}
 use Rattle.bodies.specs.Bodies.{Holds}
 use Rattle.bodies.proofs.Laws.{accepts_nine, names_nine}
 use Rattle.planning.specs.Bodies.{segment_at, segment_of, payload_of, payload_at, entries_of, segmented_layout}
-use Rattle.planning.proofs.Parts.{tag-local, extent-end, own-rises, own_back, own-full}
+use Rattle.planning.proofs.Parts.{tag_local, extent_end, own_rises, own_back, own_full}
 
 -- ---- the pieces of a rising list
 
@@ -35,8 +35,8 @@ module _ {a b : ℕ} (g : ℕ → List ℕ) (n : ℕ) (r : Rising a b (flat g n)
   piece_rising : (i : ℕ) → i < n → Rising a b (g i)
   piece_rising i l =
       rising_tests a b (g i)
-      (λ k h. rw (pieces_select g n i k l h) at (rising-from r _ (inside i k l h)))
-      (λ k h. rw (pieces_select g n i k l h) at (rising-below r _ (inside i k l h)))
+      (λ k h. rw (pieces_select g n i k l h) at (rising_from r _ (inside i k l h)))
+      (λ k h. rw (pieces_select g n i k l h) at (rising_below r _ (inside i k l h)))
       (λ k h. rw (pieces_select g n i k l (omega arith), pieces_select g n i (suc k) l h) at (rising_strict r (length (flat g i) + k) (length (flat g i) + suc k) (omega arith) (inside i (suc k) l h)))
 
   -- the last of a piece before the first of the next
@@ -84,13 +84,13 @@ module _ {span : ℕ} {xs : List ℕ} {segs : List (List ℕ)} (s : Segs span xs
 
   pub segment_few : (i : ℕ) → i < length segs → length (segment_at segs i) ≤ 65535
   unfolding entries_of
-  segment_few i l = omega (arith, counts, total-within (entries_of segs).count i (length segs) l, s.few)
+  segment_few i l = omega (arith, counts, total_within (entries_of segs).count i (length segs) l, s.few)
 
   segment_end : (i : ℕ) → i < length segs → first_of (segment_at segs i) + extent_of (segment_at segs i) ≡ suc (get_or (segment_at segs i) (length (segment_at segs i) - 1) 0)
-  segment_end i l = extent-end (segment_rising i l) (s.each i l)
+  segment_end i l = extent_end (segment_rising i l) (s.each i l)
 
   pub segment_within : (i : ℕ) → i < length segs → first_of (segment_at segs i) + extent_of (segment_at segs i) ≤ span
-  segment_within i l = rw (segment_end i l) (rising-below (segment_rising i l) _ (omega (arith, s.each i l)))
+  segment_within i l = rw (segment_end i l) (rising_below (segment_rising i l) _ (omega (arith, s.each i l)))
 
   -- ---- the layout, where it is no longer than its own fields can say
 
@@ -102,15 +102,15 @@ module _ {span : ℕ} {xs : List ℕ} {segs : List (List ℕ)} (s : Segs span xs
     unfolding segmented_layout cut_layout entries_of entries_for payload_at payload_of
     as_cut = rw (fun_ext {f = λ (i : ℕ). length (positions_of (first_of (segment_at segs i)) (segment_at segs i))} {g = λ (i : ℕ). length (segment_at segs i)} (λ i. length_positions (first_of (segment_at segs i)) (segment_at segs i)))
 
-    sizes-within : (i : ℕ) → i < length segs → directory_size (length segs) + total (λ (j : ℕ). length (payload (at j))) (suc i) ≤ 65535
+    sizes_within : (i : ℕ) → i < length segs → directory_size (length segs) + total (λ (j : ℕ). length (payload (at j))) (suc i) ≤ 65535
     unfolding entries_of payload_of
-    sizes-within i l =
+    sizes_within i l =
         let whole : length (segmented_layout segs) ≡ directory_size (length segs) + total (λ (j : ℕ). length (payload (at j))) (length segs) = length_segmented segs in
         omega (arith, total-le (λ (j : ℕ). length (payload (at j))) (suc i) (length segs) l)
 
-    own-counts : total (λ (i : ℕ). length (at i).own) (length segs) ≡ length xs
+    own_counts : total (λ (i : ℕ). length (at i).own) (length segs) ≡ length xs
     unfolding entries_of
-    own-counts = total-same _ _ (length segs) (λ i l. length_positions (first_of (segment_at segs i)) (segment_at segs i)) ∙ counts
+    own_counts = total-same _ _ (length segs) (λ i l. length_positions (first_of (segment_at segs i)) (segment_at segs i)) ∙ counts
 
     segment_fits_lem : (i : ℕ) → i < length segs → SegmentFits span (at i)
     unfolding total
@@ -119,10 +119,10 @@ module _ {span : ℕ} {xs : List ℕ} {segs : List (List ℕ)} (s : Segs span xs
         record {
           within = segment_within i l;
           narrow = s.narrow i l;
-          held = record { rising = own-rises (segment_rising i l) (s.each i l); some = omega (arith, s.each i l); most = omega (arith, segment_few i l) };
-          local = tag-local (segment_at segs i);
-          full = own-full (segment_rising i l) (s.each i l) (segment_few i l);
-          short = omega (arith, sizes-within i l);
+          held = record { rising = own_rises (segment_rising i l) (s.each i l); some = omega (arith, s.each i l); most = omega (arith, segment_few i l) };
+          local = tag_local (segment_at segs i);
+          full = own_full (segment_rising i l) (s.each i l) (segment_few i l);
+          short = omega (arith, sizes_within i l);
         }
 
     fits : CutFits span (length segs) at
@@ -132,17 +132,17 @@ module _ {span : ℕ} {xs : List ℕ} {segs : List (List ℕ)} (s : Segs span xs
       most = omega (arith, layout_length segs);
       each = segment_fits_lem;
       apart = λ i l. rw (segment_end i (omega arith)) (piece_before (segment_at segs) (length segs) rises i l (s.each i (omega arith)) (s.each (suc i) l));
-      few = omega (arith, own-counts, s.few);
-      offsets = λ i l. omega (arith, sizes-within i l);
+      few = omega (arith, own_counts, s.few);
+      offsets = λ i l. omega (arith, sizes_within i l);
     }
 
     segmented_accepted : segmented_accepts span (segmented_layout segs) ≡ true
-    segmented_accepted = rw as_cut (cut-accepted s.wide fits)
+    segmented_accepted = rw as_cut (cut_accepted s.wide fits)
 
     segmented_named : segmented_names (segmented_layout segs) ≡ xs
     unfolding cut_rows
     segmented_named =
-        ap segmented_names as_cut ∙ cut-named s.wide fits
+        ap segmented_names as_cut ∙ cut_named s.wide fits
         ∙ flat-same _ (segment_at segs) (length segs) (λ i l. own_back (segment_rising i l) (s.each i l))
         ∙ s.whole
 

@@ -33,9 +33,9 @@ put_else : (h : List ℕ) (i k a : ℕ) → (a ≡ i * 2 → ⊥) → (a ≡ i *
 unfolding put
 put_else h i k a p q = get_or-set_other (set h (i * 2) (k / 4294967296)) (i * 2 + 1) a (k % 4294967296) 0 q ∙ get_or-set_other h (i * 2) a (k / 4294967296) 0 p
 
-put-high : (h : List ℕ) (i k : ℕ) → i * 2 < length h → get_or (put h i k) (i * 2) 0 ≡ k / 4294967296
+put_high : (h : List ℕ) (i k : ℕ) → i * 2 < length h → get_or (put h i k) (i * 2) 0 ≡ k / 4294967296
 unfolding put
-put-high h i k w = get_or-set_other (set h (i * 2) (k / 4294967296)) (i * 2 + 1) (i * 2) (k % 4294967296) 0 (λ e. omega arith) ∙ get_or-set_same h (i * 2) (k / 4294967296) 0 w
+put_high h i k w = get_or-set_other (set h (i * 2) (k / 4294967296)) (i * 2 + 1) (i * 2) (k % 4294967296) 0 (λ e. omega arith) ∙ get_or-set_same h (i * 2) (k / 4294967296) 0 w
 
 put_low : (h : List ℕ) (i k : ℕ) → i * 2 + 1 < length h → get_or (put h i k) (i * 2 + 1) 0 ≡ k % 4294967296
 unfolding put
@@ -44,7 +44,7 @@ put_low h i k w = get_or-set_same (set h (i * 2) (k / 4294967296)) (i * 2 + 1) (
 pub put_upd : (h : List ℕ) (i k : ℕ) → i * 2 + 1 < length h → Upd (key h) (key (put h i k)) i k
 unfolding key
 put_upd h i k w = record {
-  at = omega (arith, put-high h i k (omega arith), put_low h i k w);
+  at = omega (arith, put_high h i k (omega arith), put_low h i k w);
   else = λ j ne.
       omega (arith, put_else h i k (j * 2) (λ e. ne (omega arith)) (λ e. omega arith), put_else h i k (j * 2 + 1) (λ e. omega arith) (λ e. ne (omega arith)));
 }
@@ -59,21 +59,21 @@ pub one_same : (k : ℕ) → one k k ≡ 1
 unfolding one pick
 one_same k = rw (eq-eqb k k refl)
 
-pub one-other : (k x : ℕ) → (k ≡ x → ⊥) → one k x ≡ 0
+pub one_other : (k x : ℕ) → (k ≡ x → ⊥) → one k x ≡ 0
 unfolding one pick
-one-other k x ne = rw (ne_eqb k x ne)
+one_other k x ne = rw (ne_eqb k x ne)
 
-pub occ-more : (f : ℕ → ℕ) (n x : ℕ) → occ f (n + 1) x ≡ occ f n x + one (f n) x
+pub occ_more : (f : ℕ → ℕ) (n x : ℕ) → occ f (n + 1) x ≡ occ f n x + one (f n) x
 unfolding occ
-occ-more f n x = rw add-one
+occ_more f n x = rw add-one
 
 -- a key that occurs has a place
-pub occ-some : (f : ℕ → ℕ) (n x : ℕ) → 0 < occ f n x → (j : ℕ) × (j < n) × (f j ≡ x)
+pub occ_some : (f : ℕ → ℕ) (n x : ℕ) → 0 < occ f n x → (j : ℕ) × (j < n) × (f j ≡ x)
 unfolding occ
-occ-some f zero x h = absurd (omega arith)
-occ-some f (suc n) x h = by_eq (f n) x
+occ_some f zero x h = absurd (omega arith)
+occ_some f (suc n) x h = by_eq (f n) x
     (λ e. (n, omega arith, e))
-    (λ ne. let r = occ-some f n x (omega (arith, one-other (f n) x ne)) in (r.0, omega (arith, r.1), r.2))
+    (λ ne. let r = occ_some f n x (omega (arith, one_other (f n) x ne)) in (r.0, omega (arith, r.1), r.2))
 
 occ_ext : (f g : ℕ → ℕ) (n x : ℕ) → ((j : ℕ) → j < n → g j ≡ f j) → occ g n x ≡ occ f n x
 unfolding occ

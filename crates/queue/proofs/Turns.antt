@@ -7,7 +7,7 @@ use native.Mathlib.Omega.{arith}
 use lib.ListN.{length, get_or}
 use Rattle.queue.specs.Keys.{key, put, one, occ, Heap}
 use Rattle.queue.specs.Steps.{Larger, Settled, Pushed, Popped}
-use Rattle.queue.proofs.Keys.{by_eq, Upd, put-length, put_upd, put_rest, occ-more, occ_upd}
+use Rattle.queue.proofs.Keys.{by_eq, Upd, put-length, put_upd, put_rest, occ_more, occ_upd}
 use Rattle.queue.proofs.Order.{Hole, Under, ordered_less, hole_first, hole_last, fill, risen, risen_under, sunk, top}
 
 -- push: a hole at i, which k fits as far as the keys below it; all keys but the one in the hole are those given
@@ -19,13 +19,13 @@ pub record Rising (h₀ : List ℕ) (n k : ℕ) (h : List ℕ) (i : ℕ) : Type 
   pub keys : (x : ℕ) → occ (key h) (n + 1) x ≡ occ (key h₀) n x + one (key h i) x
   pub rest : (a : ℕ) → (n + 1) * 2 ≤ a → get_or h a 0 ≡ get_or h₀ a 0
 
-pub rising-start : {h : List ℕ} {n : ℕ} (k : ℕ) → Heap h n → Rising h n k h n
-rising-start {h} {n} k o = record {
+pub rising_start : {h : List ℕ} {n : ℕ} (k : ℕ) → Heap h n → Rising h n k h n
+rising_start {h} {n} k o = record {
   in_n = omega arith;
   len = refl;
   hole = hole_last (omega arith) o;
   under = λ j p q e. absurd (omega arith);
-  keys = occ-more (key h) n;
+  keys = occ_more (key h) n;
   rest = λ a w. refl;
 }
 
@@ -33,11 +33,11 @@ module _ {h₀ : List ℕ} {n k : ℕ} {h : List ℕ} {i : ℕ} {h' : List ℕ} 
   rising_upd : Upd (key h) (key h') i v
   rising_upd = rw eh (put_upd h i v (omega (arith, r.len, r.in_n)))
 
-  rising-keys : (x : ℕ) → occ (key h') (n + 1) x ≡ occ (key h₀) n x + one v x
-  rising-keys x = omega (arith, r.keys x, occ_upd (n + 1) x rising_upd (omega (arith, r.in_n)))
+  rising_keys : (x : ℕ) → occ (key h') (n + 1) x ≡ occ (key h₀) n x + one v x
+  rising_keys x = omega (arith, r.keys x, occ_upd (n + 1) x rising_upd (omega (arith, r.in_n)))
 
-  rising-rest : (a : ℕ) → (n + 1) * 2 ≤ a → get_or h' a 0 ≡ get_or h₀ a 0
-  rising-rest a b = ap (λ (t : List ℕ). get_or t a 0) eh ∙ put_rest h i v (n + 1) a (omega (arith, r.in_n)) b ∙ r.rest a b
+  rising_rest : (a : ℕ) → (n + 1) * 2 ≤ a → get_or h' a 0 ≡ get_or h₀ a 0
+  rising_rest a b = ap (λ (t : List ℕ). get_or t a 0) eh ∙ put_rest h i v (n + 1) a (omega (arith, r.in_n)) b ∙ r.rest a b
 
   pub rising_turn : 0 < i → v ≡ key h ((i - 1) / 2) → v < k → Rising h₀ n k h' ((i - 1) / 2)
   rising_turn z ev lv =
@@ -48,15 +48,15 @@ module _ {h₀ : List ℕ} {n k : ℕ} {h : List ℕ} {i : ℕ} {h' : List ℕ} 
         len = ap length eh ∙ put-length h i v ∙ r.len;
         hole = risen rising_upd r.hole z l ev;
         under = λ j p q e. omega (arith, risen_under rising_upd r.hole z l ev j p q e);
-        keys = λ x. rising-keys x ∙ rw same;
-        rest = rising-rest;
+        keys = λ x. rising_keys x ∙ rw same;
+        rest = rising_rest;
       }
 
-  pub rising-end : v ≡ k → (0 < i → k ≤ key h ((i - 1) / 2)) → Pushed h₀ n k h'
-  rising-end ev le = record {
+  pub rising_end : v ≡ k → (0 < i → k ≤ key h ((i - 1) / 2)) → Pushed h₀ n k h'
+  rising_end ev le = record {
     heap = fill rising_upd r.hole (λ z. omega (arith, le z)) (λ j p q e. omega (arith, r.under j p q e));
-    keys = λ x. rising-keys x ∙ rw ev;
-    rest = rising-rest;
+    keys = λ x. rising_keys x ∙ rw ev;
+    rest = rising_rest;
   }
 
 -- settle: a hole at i, which k fits as far as the key above it
@@ -79,8 +79,8 @@ sinking_start k z o = record {
 }
 
 -- the keys below a place are at most the larger one
-pub larger-under : {h : List ℕ} {i m c : ℕ} → Larger h (i * 2 + 1) m c → (k : ℕ) → key h c ≤ k → Under (key h) m i k
-larger-under {h} {i} b k l j p q e = by_eq j (i * 2 + 1)
+pub larger_under : {h : List ℕ} {i m c : ℕ} → Larger h (i * 2 + 1) m c → (k : ℕ) → key h c ≤ k → Under (key h) m i k
+larger_under {h} {i} b k l j p q e = by_eq j (i * 2 + 1)
     (λ ej. omega (arith, ap (key h) ej, b.first))
     (λ nej. let ej : j ≡ i * 2 + 1 + 1 = omega arith in omega (arith, ap (key h) ej, b.second (omega arith)))
 
@@ -101,7 +101,7 @@ module _ {h₀ : List ℕ} {m k : ℕ} {h : List ℕ} {i : ℕ} {h' : List ℕ} 
       record {
         in_m = b.within;
         len = ap length eh ∙ put-length h i v ∙ r.len;
-        hole = sunk sinking_upd r.hole c pc (omega (arith, b.low)) b.within ev (larger-under b (key h c) (omega arith));
+        hole = sunk sinking_upd r.hole c pc (omega (arith, b.low)) b.within ev (larger_under b (key h c) (omega arith));
         over = λ _. omega (arith, ap (key h') pc, sinking_upd.at);
         keys = λ x. sinking_keys x ∙ rw same;
         rest = sinking_rest;
@@ -120,7 +120,7 @@ popped {h} {n} {r} {k} z o er ek s = record {
   largest = λ j q. omega (arith, top o j q);
   heap = s.heap;
   keys = λ x.
-      let a : occ (key h) n x ≡ occ (key h) (n - 1) x + one (key h (n - 1)) x = ap (λ (t : ℕ). occ (key h) t x) (omega arith) ∙ occ-more (key h) (n - 1) x in
+      let a : occ (key h) n x ≡ occ (key h) (n - 1) x + one (key h (n - 1)) x = ap (λ (t : ℕ). occ (key h) t x) (omega arith) ∙ occ_more (key h) (n - 1) x in
       omega (arith, s.keys x, ap (λ (y : ℕ). one y x) ek, ap (λ (y : ℕ). one y x) er);
   rest = s.rest;
 }
@@ -135,6 +135,6 @@ popped_one {h} {n} {r} z e o er = record {
       let en : n ≡ 0 + 1 = omega arith in
       let a : occ (key h) n x ≡ occ (key h) (0 + 1) x = ap (λ (t : ℕ). occ (key h) t x) en in
       let b : occ (key h) (n - 1) x ≡ 0 = ap (λ (t : ℕ). occ (key h) t x) e in
-      omega (arith, occ-more (key h) 0 x, ap (λ (y : ℕ). one y x) er);
+      omega (arith, occ_more (key h) 0 x, ap (λ (y : ℕ). one y x) er);
   rest = λ a q. refl;
 }

@@ -13,11 +13,11 @@ use Rattle.model.specs.Lists.{place_of, rank_of, select_of}
 use Rattle.model.specs.Answers.{Answer, accepted, refused}
 use Rattle.model.specs.declared.Place.{Place}
 use Rattle.model.proofs.Tests.{pick_true, pick_false}
-use Rattle.model.proofs.Standing.{below-most, select_is, select_none}
+use Rattle.model.proofs.Standing.{below_most, select_is, select_none}
 use Rattle.directory.specs.Directory.{stated_segments}
 use Rattle.bodies.specs.Bodies.{accepts, names}
 use Rattle.rowset.specs.Calls.{asked, row_of}
-use Rattle.bodies.proofs.Laws.{names-few}
+use Rattle.bodies.proofs.Laws.{names_few}
 
 -- ---- refused, or asked
 
@@ -37,7 +37,7 @@ row_rank rows p = refl
 
 pub small_rank : (tag span : ℕ) (xs : List ℕ) {r : Place} (p : ℕ) → accepts tag span xs ≡ true → Bytes xs → r ≡ place_of (names tag span xs) p → r.below ≤ 65535
 unfolding place_of
-small_rank tag span xs p ok b e = rw e (omega (arith, below-most (names tag span xs) p, names-few tag span xs ok b))
+small_rank tag span xs p ok b e = rw e (omega (arith, below_most (names tag span xs) p, names_few tag span xs ok b))
 
 -- ---- select
 

@@ -14,7 +14,7 @@ use Rattle.model.specs.Answers.{accepted}
 use Rattle.model.proofs.Standing.{select_is, rank_is, rank_select, select_rank}
 use Rattle.bodies.specs.Bodies.{accepts, names}
 use Rattle.rowset.specs.Calls.{rank_answer, select_answer}
-use Rattle.bodies.proofs.Named.{names-rising}
+use Rattle.bodies.proofs.Named.{names_rising}
 use Rattle.rowset.proofs.Asking.{answers}
 
 module _ (tag span : ℕ) (xs : List ℕ) (ok : accepts tag span xs ≡ true) (bytes : Bytes xs) where
@@ -25,14 +25,14 @@ module _ (tag span : ℕ) (xs : List ℕ) (ok : accepts tag span xs ≡ true) (b
       → (select_answer tag span xs k ≡ accepted (get_or (names tag span xs) k 0 ∷ [])) × (rank_answer tag span xs (get_or (names tag span xs) k 0) ≡ accepted (k ∷ []))
   unfolding select_answer rank_answer
   rank_of_select k h =
-      (sym (answers tag span xs ok (ap accepted (sym (select_is (names tag span xs) k h)))), sym (answers tag span xs ok (ap accepted (sym (rank_select (names-rising tag span xs ok bytes) k h)))))
+      (sym (answers tag span xs ok (ap accepted (sym (select_is (names tag span xs) k h)))), sym (answers tag span xs ok (ap accepted (sym (rank_select (names_rising tag span xs ok bytes) k h)))))
 
   -- what select answers for the rank of a position that is named is that position
   pub select_of_rank : (p : ℕ) → has (names tag span xs) p ≡ true
       → (rank_answer tag span xs p ≡ accepted (below (names tag span xs) p ∷ [])) × (select_answer tag span xs (below (names tag span xs) p) ≡ accepted (p ∷ []))
   unfolding select_answer rank_answer
   select_of_rank p h =
-      (sym (answers tag span xs ok (ap accepted (sym (rank_is (names tag span xs) p h)))), sym (answers tag span xs ok (ap accepted (sym (select_rank (names-rising tag span xs ok bytes) p h)))))
+      (sym (answers tag span xs ok (ap accepted (sym (rank_is (names tag span xs) p h)))), sym (answers tag span xs ok (ap accepted (sym (select_rank (names_rising tag span xs ok bytes) p h)))))
 
   -- ---- walk: as many as fit or remain, each what select answers for its ordinal
 

@@ -6,7 +6,7 @@ use Rattle.model.specs.Lists.{range, moved}
 use Rattle.model.specs.Answers.{Walked}
 use Rattle.model.proofs.Ranges.{length-range, range-append}
 use Rattle.model.proofs.Taking.{drop_past}
-use Rattle.model.proofs.Writing.{moved-range, Filled, filled_start, filled_length, filled_more, filled_end, walks-none}
+use Rattle.model.proofs.Writing.{moved-range, Filled, filled_start, filled_length, filled_more, filled_end, walks_none}
 use Rattle.runs.specs.Runs.{run_start, run_size, run_before}
 use Rattle.runs.specs.Asked.{entry_of, before_to, runs_from, runs_rest, runs_walk}
 use Rattle.runs.specs.declared.Entry.{Entry}
@@ -14,9 +14,9 @@ use Rattle.runs.proofs.Found.{last_none, last_some}
 
 -- ---- one run: the numbers from first on are its positions, counted from base
 
-pub written-end : (out : List ℕ) (at base start skip n : ℕ) {f first : ℕ} → f ≡ (base + start) % 4294967296 → first ≡ (f + skip) % 4294967296
+pub written_end : (out : List ℕ) (at base start skip n : ℕ) {f first : ℕ} → f ≡ (base + start) % 4294967296 → first ≡ (f + skip) % 4294967296
     → sets out at (moved first (range 0 n)) ≡ sets out at (moved base (range (start + skip) n))
-written-end out at base start skip n {f} {first} p q =
+written_end out at base start skip n {f} {first} p q =
     let e : first ≡ (base + (start + skip)) % 4294967296 = omega arith in
     rw (moved-range base (start + skip) 0 n e, add-zero)
 
@@ -76,7 +76,7 @@ module _ {w : ℕ} {xs : List ℕ} {n base : ℕ} {rows before after : List ℕ}
 pub walked_none : (w : ℕ) (xs : List ℕ) (n k base : ℕ) (out : List ℕ) {found : ℕ} → found ≡ before_to w xs n k → found ≡ 0 → Walked (runs_walk w xs n k base (length out)) out out 0
 unfolding runs_walk runs_rest moved
 walked_none w xs n k base out e z =
-    walks-none out (rw (← last_none [] (λ (i : ℕ). runs_from w xs (n - i) i (k - run_before w xs i)) e z, take-nil))
+    walks_none out (rw (← last_none [] (λ (i : ℕ). runs_from w xs (n - i) i (k - run_before w xs i)) e z, take-nil))
 
 pub walked_rest : (w : ℕ) (xs : List ℕ) (n k base : ℕ) {before after : List ℕ} {found r : ℕ} {e : Entry} → found ≡ before_to w xs n k → (found ≡ 0 → ⊥) → e ≡ entry_of w xs (found - 1)
     → Walked (moved base (take (length before) (runs_from w xs (n - (found - 1)) (found - 1) (k - e.before)))) before after r → Walked (runs_walk w xs n k base (length before)) before after r

@@ -6,15 +6,15 @@ use lib.Seq.{drop-append-add, drop-append-le}
 use Rattle.model.specs.Tests.{flat, total}
 use Rattle.model.specs.Lists.{Rising, place_of, walk_of, range, moved}
 use Rattle.model.proofs.Sums.{total-le, flat-total}
-use Rattle.model.proofs.Windows.{windows-apart, windows-level}
+use Rattle.model.proofs.Windows.{windows_apart, windows_level}
 use Rattle.model.proofs.Rising.{rising_wider}
-use Rattle.model.proofs.Ranges.{length-range, get_d_range, range-rising, range-drop, below-range, has_past}
-use Rattle.model.proofs.Pieces.{Pieces, pieces-rising, pieces_none, pieces_place, pieces_select}
+use Rattle.model.proofs.Ranges.{length-range, get_or-range, range_rising, range-drop, below-range, has_past}
+use Rattle.model.proofs.Pieces.{Pieces, pieces_rising, pieces_none, pieces_place, pieces_select}
 use Rattle.search.specs.Search.{up_to, Cut}
-use Rattle.search.proofs.Laws.{find-cut, falls_level, at_most, above}
+use Rattle.search.proofs.Laws.{find_cut, falls_level, at_most, above}
 use Rattle.runs.specs.Runs.{run_start, run_size, run_before, runs_names, least, most_of}
 use Rattle.runs.specs.Asked.{entry_of, starts_to, before_to, last_of, place_in, runs_place, nth_of, runs_select, runs_from, runs_rest, runs_walk}
-use Rattle.runs.proofs.Parts.{Parts, some-run}
+use Rattle.runs.proofs.Parts.{Parts, some_run}
 
 -- the positions of run i
 abbrev piece : ℕ → List ℕ → ℕ → List ℕ
@@ -43,30 +43,30 @@ module _ {w : ℕ} {xs : List ℕ} {span count n : ℕ} (p : Parts w xs span cou
   unfolding least
   next_free i h = (p.fit (suc i) h).free
 
-  ends-before : (i j : ℕ) → i < j → j < n → run_start w xs i + run_size w xs i < run_start w xs j
-  ends-before = windows-apart (run_start w xs) (λ (i : ℕ). suc (run_start w xs i + run_size w xs i)) n (λ i l. omega arith) next_free
+  ends_before : (i j : ℕ) → i < j → j < n → run_start w xs i + run_size w xs i < run_start w xs j
+  ends_before = windows_apart (run_start w xs) (λ (i : ℕ). suc (run_start w xs i + run_size w xs i)) n (λ i l. omega arith) next_free
 
   starts_rise : (i j : ℕ) → i ≤ j → j < n → run_start w xs i ≤ run_start w xs j
-  starts_rise = windows-level (run_start w xs) (λ (i : ℕ). suc (run_start w xs i + run_size w xs i)) n (λ i l. omega arith) next_free
+  starts_rise = windows_level (run_start w xs) (λ (i : ℕ). suc (run_start w xs i + run_size w xs i)) n (λ i l. omega arith) next_free
 
   before_rise : (i j : ℕ) → i ≤ j → j < n → run_before w xs i ≤ run_before w xs j
   before_rise i j l h = rw ((p.fit i (omega arith)).exact, (p.fit j h).exact) (total-le (run_size w xs) i j l)
 
   -- the rows up to run i and with it
-  before-is : (i : ℕ) → i < n → length (runs_names w xs i) ≡ run_before w xs i
-  before-is i l = names-total w xs i ∙ sym (p.fit i l).exact
+  before_is : (i : ℕ) → i < n → length (runs_names w xs i) ≡ run_before w xs i
+  before_is i l = names-total w xs i ∙ sym (p.fit i l).exact
 
   pieces : Pieces (piece w xs) (run_start w xs) (λ (i : ℕ). run_start w xs i + run_size w xs i) n 0 (most_of w span)
-  pieces = record { inside = λ i l. range-rising (run_start w xs i) (run_size w xs i); first = λ i l. omega arith; wide = λ i l. omega arith; last = λ i l. (p.fit i l).within; apart = λ i j l h. omega (arith, ends-before i j l h) }
+  pieces = record { inside = λ i l. range_rising (run_start w xs i) (run_size w xs i); first = λ i l. omega arith; wide = λ i l. omega arith; last = λ i l. (p.fit i l).within; apart = λ i j l h. omega (arith, ends_before i j l h) }
 
   -- T3
-  pub names-within : Rising 0 (most_of w span) (runs_names w xs n)
+  pub names_within : Rising 0 (most_of w span) (runs_names w xs n)
   unfolding runs_names
-  names-within = pieces-rising n (omega arith) pieces
+  names_within = pieces_rising n (omega arith) pieces
 
-  pub names-rising : Rising 0 span (runs_names w xs n)
+  pub names_rising : Rising 0 span (runs_names w xs n)
   unfolding most_of
-  names-rising = rising_wider (omega arith) (omega arith) names-within
+  names_rising = rising_wider (omega arith) (omega arith) names_within
 
   pub names-length : length (runs_names w xs n) ≡ count
   names-length = names-total w xs n ∙ p.sum
@@ -83,12 +83,12 @@ module _ {w : ℕ} {xs : List ℕ} {span count n : ℕ} (p : Parts w xs span cou
       let l : i < n = c.within in
       let h : run_start w xs i ≤ q = at_most (run_start w xs) q i (c.below i (omega arith)) in
       let s = pieces_place n (pieces p) q i l h (λ j g d. above (run_start w xs) q j (c.from j g d)) in
-      let b : length (flat (piece w xs) i) ≡ run_before w xs i = before-is p i l in
+      let b : length (flat (piece w xs) i) ≡ run_before w xs i = before_is p i l in
       rw (s.0, s.1, b, below-range, has_past (run_start w xs i) (run_size w xs i) q h)
 
   pub runs_place_lem : (q : ℕ) → runs_place w xs n q ≡ place_of (runs_names w xs n) q
   unfolding runs_place starts_to
-  runs_place_lem q = place_by q _ (find-cut (up_to false (run_start w xs) q) n (falls_level (run_start w xs) q n (starts_rise p)))
+  runs_place_lem q = place_by q _ (find_cut (up_to false (run_start w xs) q) n (falls_level (run_start w xs) q n (starts_rise p)))
 
   -- the run of ordinal k holds it, or is the last
   holds : (k i : ℕ) → Cut (up_to false (run_before w xs) k) n (suc i) → (k - run_before w xs i < run_size w xs i) ⊎ (suc i ≡ n)
@@ -105,11 +105,11 @@ module _ {w : ℕ} {xs : List ℕ} {span count n : ℕ} (p : Parts w xs span cou
   -- ordinal 0 has a run
   first_run : (k : ℕ) → Cut (up_to false (run_before w xs) k) n 0 → ⊥
   unfolding total
-  first_run k c = omega (arith, above (run_before w xs) k 0 (c.from 0 (omega arith) (some-run p)), (p.fit 0 (some-run p)).exact)
+  first_run k c = omega (arith, above (run_before w xs) k 0 (c.from 0 (omega arith) (some_run p)), (p.fit 0 (some_run p)).exact)
 
-  before-cut : (k : ℕ) → Cut (up_to false (run_before w xs) k) n (before_to w xs n k)
+  before_cut : (k : ℕ) → Cut (up_to false (run_before w xs) k) n (before_to w xs n k)
   unfolding before_to
-  before-cut k = find-cut (up_to false (run_before w xs) k) n (falls_level (run_before w xs) k n (before_rise p))
+  before_cut k = find_cut (up_to false (run_before w xs) k) n (falls_level (run_before w xs) k n (before_rise p))
 
   select_by : (k f : ℕ) → span ≤ 4294967296 → k < count → Cut (up_to false (run_before w xs) k) n f → last_of 0 (λ (i : ℕ). nth_of (entry_of w xs i) k) f ≡ get_or (runs_names w xs n) k 0
   unfolding last_of nth_of entry_of runs_names total most_of
@@ -123,12 +123,12 @@ module _ {w : ℕ} {xs : List ℕ} {span count n : ℕ} (p : Parts w xs span cou
       let f = p.fit i l in
       let o : k - b < z = ⊎_elim (λ q. q) (λ (e : suc i ≡ n). omega (arith, f.exact, p.sum, ap (λ (m : ℕ). total (run_size w xs) m) e)) (holds k i c) in
       let m : (x + (k - b)) % 4294967296 ≡ x + (k - b) = mod-eq_of_lt (omega (arith, f.within)) in
-      let e : length (flat (piece w xs) i) + (k - b) ≡ k = rw (before-is p i l) (omega arith) in
-      m ∙ sym (ap (λ (j : ℕ). get_or (flat (piece w xs) n) j 0) (sym e) ∙ pieces_select (piece w xs) n i (k - b) l (rw length-range o) ∙ get_d_range x z (k - b) o)
+      let e : length (flat (piece w xs) i) + (k - b) ≡ k = rw (before_is p i l) (omega arith) in
+      m ∙ sym (ap (λ (j : ℕ). get_or (flat (piece w xs) n) j 0) (sym e) ∙ pieces_select (piece w xs) n i (k - b) l (rw length-range o) ∙ get_or-range x z (k - b) o)
 
   pub runs_select_lem : (k : ℕ) → span ≤ 4294967296 → k < count → runs_select w xs n k ≡ get_or (runs_names w xs n) k 0
   unfolding runs_select
-  runs_select_lem k s h = select_by k _ s h (before-cut k)
+  runs_select_lem k s h = select_by k _ s h (before_cut k)
 
   rest_by : (k f : ℕ) → Cut (up_to false (run_before w xs) k) n f → last_of [] (λ (i : ℕ). runs_from w xs (n - i) i (k - run_before w xs i)) f ≡ drop k (runs_names w xs n)
   unfolding last_of runs_from
@@ -143,7 +143,7 @@ module _ {w : ℕ} {xs : List ℕ} {span count n : ℕ} (p : Parts w xs span cou
       let v : run_before w xs i ≤ k = at_most (run_before w xs) k i (c.below i (omega arith)) in
       let g : n - i ≡ suc m = omega arith in
       let a : n ≡ i + suc m = omega arith in
-      let e : k ≡ length (runs_names w xs i) + s = rw (before-is p i l) (omega arith) in
+      let e : k ≡ length (runs_names w xs i) + s = rw (before_is p i l) (omega arith) in
       let whole : runs_names w xs n ≡ runs_names w xs i ++ (range x z ++ r) =
       ap (λ (j : ℕ). runs_names w xs j) a ∙ names_split w xs i (suc m) ∙ rw (add-zero x, sub-zero z) in
       let left : drop k (runs_names w xs n) ≡ drop s (range x z ++ r) =
@@ -158,10 +158,10 @@ module _ {w : ℕ} {xs : List ℕ} {span count n : ℕ} (p : Parts w xs span cou
       rw g (sym (left ∙ cut))
 
   -- what is walked from ordinal k on
-  pub runs-rest : (k : ℕ) → runs_rest w xs n k ≡ drop k (runs_names w xs n)
+  pub runs_rest_lem : (k : ℕ) → runs_rest w xs n k ≡ drop k (runs_names w xs n)
   unfolding runs_rest
-  runs-rest k = rest_by k _ (before-cut k)
+  runs_rest_lem k = rest_by k _ (before_cut k)
 
   pub runs_walk_lem : (k base room : ℕ) → runs_walk w xs n k base room ≡ moved base (walk_of (runs_names w xs n) k room)
   unfolding runs_walk
-  runs_walk_lem k base room = rw (runs-rest k)
+  runs_walk_lem k base room = rw (runs_rest_lem k)

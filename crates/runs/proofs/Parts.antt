@@ -3,8 +3,8 @@
 use Rattle.std.proofs.Common.{◌≡◌, ℕ, ◌+◌, ◌*◌, ◌/◌, ◌<◌, ◌≤◌, Bool, true, false, List, length, ap, ◌∙◌, ⊎_elim, arith, eq-eqb, eqb-true, le-leb, leb-true}
 use Rattle.model.specs.Tests.{total}
 use Rattle.model.proofs.Sums.{total-least}
-use Rattle.model.proofs.Counted.{Count, counted-count, counted-right, both_pass}
-use Rattle.model.proofs.Tests.{order, refuse, both_true, both_left, both_right, all-at, all_from}
+use Rattle.model.proofs.Counted.{Count, counted_count, counted_right, both_pass}
+use Rattle.model.proofs.Tests.{order, refuse, both_true, both_left, both_right, all_at, all_from}
 use Rattle.runs.specs.Runs.{stride_of, run_count, run_start, run_size, run_before, least, fits, run_fits, most_of, runs_stand, runs_accepts}
 
 -- ---- one run
@@ -42,19 +42,19 @@ module _ (w : ℕ) (xs : List ℕ) (span count : ℕ) where
   accepts_parts e =
       let e₁ = both_right _ _ e in
       let e₂ = both_right _ _ e₁ in
-      record { counts = counted-count span count (both_left _ _ e); sized = eqb-true _ _ (both_left _ _ e₁); fit = λ i l. fits-fit (all-at _ _ (both_left _ _ e₂) i l); sum = eqb-true _ _ (both_right _ _ e₂) }
+      record { counts = counted_count span count (both_left _ _ e); sized = eqb-true _ _ (both_left _ _ e₁); fit = λ i l. fits-fit (all_at _ _ (both_left _ _ e₂) i l); sum = eqb-true _ _ (both_right _ _ e₂) }
 
   pub parts_accepts : Parts w xs span count (run_count w xs) → runs_accepts w xs span count ≡ true
   unfolding runs_accepts runs_stand run_fits
   parts_accepts p =
-      both_true _ _ (counted-right span count p.counts) (both_true _ _ (eq-eqb _ _ p.sized) (both_true _ _ (all_from _ _ (λ i l. fit-fits (p.fit i l))) (eq-eqb _ _ p.sum)))
+      both_true _ _ (counted_right span count p.counts) (both_true _ _ (eq-eqb _ _ p.sized) (both_true _ _ (all_from _ _ (λ i l. fit-fits (p.fit i l))) (eq-eqb _ _ p.sum)))
 
 pub parts_few : {w : ℕ} {xs : List ℕ} {span count n : ℕ} → Parts w xs span count n → n ≤ count
 parts_few {w} {xs} {n = n} p = rw p.sum at (total-least (run_size w xs) n (λ i l. (p.fit i l).filled))
 
-pub some-run : {w : ℕ} {xs : List ℕ} {span count n : ℕ} → Parts w xs span count n → 0 < n
+pub some_run : {w : ℕ} {xs : List ℕ} {span count n : ℕ} → Parts w xs span count n → 0 < n
 unfolding total
-some-run {n = n} p = ⊎_elim (λ l. l) (λ (g : n ≤ 0). let e : n ≡ 0 = omega arith in omega (arith, p.counts.some, rw e at p.sum)) (order 0 n)
+some_run {n = n} p = ⊎_elim (λ l. l) (λ (g : n ≤ 0). let e : n ≡ 0 = omega arith in omega (arith, p.counts.some, rw e at p.sum)) (order 0 n)
 
 -- ---- the answers of the check
 
@@ -76,4 +76,4 @@ module _ (w : ℕ) (xs : List ℕ) (span count : ℕ) where
   pub check_stand : {n size most : ℕ} {r : Bool} → n ≡ length xs / stride_of w → size ≡ n * stride_of w → Count span count → size ≡ length xs
       → most ≡ most_of w span → r ≡ runs_stand w xs most count n → r ≡ runs_accepts w xs span count
   unfolding runs_accepts run_count
-  check_stand q s c d m e = rw (← q, ← s, ← m) (both_pass (counted-right span count c) (both_pass (eq-eqb _ _ d) e))
+  check_stand q s c d m e = rw (← q, ← s, ← m) (both_pass (counted_right span count c) (both_pass (eq-eqb _ _ d) e))

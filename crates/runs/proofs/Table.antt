@@ -9,16 +9,16 @@ use Rattle.runs.specs.Runs.{stride_of, run_start, run_size, run_before, least, f
 use Rattle.runs.specs.Asked.{entry_of}
 use Rattle.runs.specs.declared.Entry.{Entry}
 
-pub fits-is : (start size before low rows most : ℕ)
+pub fits_is : (start size before low rows most : ℕ)
     → (leb low start && (leb 1 size && (leb (start + size) most && eqb before rows))) ≡ fits start size before low rows most
 unfolding fits
-fits-is start size before low rows most = simp and_both
+fits_is start size before low rows most = simp and_both
 
 -- an entry from its three fields
-pub entry-is : (w : ℕ) (xs : List ℕ) (i : ℕ) {at v start size before : ℕ} → at ≡ i * stride_of w → v ≡ w → start ≡ le w xs at → size ≡ le 2 xs (v + at) → before ≡ le 2 xs (v + 2 + at)
+pub entry_is : (w : ℕ) (xs : List ℕ) (i : ℕ) {at v start size before : ℕ} → at ≡ i * stride_of w → v ≡ w → start ≡ le w xs at → size ≡ le 2 xs (v + at) → before ≡ le 2 xs (v + 2 + at)
     → ◌≡◌ {A = Entry} (record { start = start; size = size; before = before }) (entry_of w xs i)
 unfolding entry_of entry
-entry-is w xs i a v s n b = rw (s, n, b, a, v, zero-add)
+entry_is w xs i a v s n b = rw (s, n, b, a, v, zero-add)
 
 -- the entries that the bytes hold are inside
 pub held : (bytes w : ℕ) {n : ℕ} → n ≡ bytes / stride_of w → n * stride_of w ≤ bytes

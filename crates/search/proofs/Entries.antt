@@ -8,7 +8,7 @@ use native.Mathlib.Numerals.{add-one}
 use native.Mathlib.Omega.{arith}
 use lib.ListN.{length}
 use Rattle.fields.specs.Le.{le}
-use Rattle.fields.proofs.Tables.{le-second}
+use Rattle.fields.proofs.Tables.{le_second}
 use Rattle.search.specs.Search.{entry}
 
 -- in a table that starts the slice
@@ -17,11 +17,11 @@ unfolding entry
 entry_at w xs stride i = rw zero-add
 
 -- behind the first entry
-pub entry-behind : (w base stride : ℕ) (head xs : List ℕ) (i : ℕ) → length head ≡ stride → entry w (head ++ xs) base stride (suc i) ≡ entry w xs base stride i
+pub entry_behind : (w base stride : ℕ) (head xs : List ℕ) (i : ℕ) → length head ≡ stride → entry w (head ++ xs) base stride (suc i) ≡ entry w xs base stride i
 unfolding entry
-entry-behind w base stride head xs i e =
+entry_behind w base stride head xs i e =
     let q : base + suc i * stride ≡ stride + (base + i * stride) = rw suc-mul (omega arith) in
-    rw q (le-second w head xs stride (base + i * stride) e)
+    rw q (le_second w head xs stride (base + i * stride) e)
 
 -- entry i of n that are inside is inside, as the reader of an entry asks it
 pub slot : (stride i : ℕ) {n len : ℕ} → n * stride ≤ len → i < n → (i + 1) * stride ≤ len

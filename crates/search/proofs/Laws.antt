@@ -80,9 +80,9 @@ module _ (t : ℕ → Bool) where
 
   -- ---- the turns of the code
 
-  pub find-done : (lo hi : ℕ) → hi ≤ lo → find t lo hi ≡ lo
+  pub find_done : (lo hi : ℕ) → hi ≤ lo → find t lo hi ≡ lo
   unfolding find
-  find-done lo hi h = done (hi - lo) lo hi h
+  find_done lo hi h = done (hi - lo) lo hi h
 
   more : (lo hi : ℕ) → find t lo hi ≡ bsearch t (suc (hi - lo)) lo hi
   unfolding find
@@ -110,9 +110,9 @@ module _ (t : ℕ → Bool) where
       (λ g. rw (done (suc k) lo hi g) o)
       (order lo hi)
 
-  pub find-within : (n : ℕ) → find t 0 n ≤ n
+  pub find_within : (n : ℕ) → find t 0 n ≤ n
   unfolding find
-  find-within n = bounded (n - 0) 0 n (omega arith)
+  find_within n = bounded (n - 0) 0 n (omega arith)
 
   -- whatever the test, it passed just before the answer and failed at it: no order is asked of the table
   edges : (k lo hi n : ℕ) → hi ≤ lo + k → lo ≤ hi → hi ≤ n → (0 < lo → t (lo - 1) ≡ true) → (hi < n → t hi ≡ false)
@@ -158,9 +158,9 @@ module _ (t : ℕ → Bool) where
       (λ g. rw (done (suc k) lo hi g) (met n lo hi g o w b a))
       (order lo hi)
 
-  pub find-cut : (n : ℕ) → Falling t n → Cut t n (find t 0 n)
+  pub find_cut : (n : ℕ) → Falling t n → Cut t n (find t 0 n)
   unfolding find
-  find-cut n f = cut n f (n - 0) 0 n (omega arith) (omega arith) (omega arith) (λ i p. absurd (omega arith)) (λ i p q. absurd (omega arith))
+  find_cut n f = cut n f (n - 0) 0 n (omega arith) (omega arith) (omega arith) (λ i p. absurd (omega arith)) (λ i p q. absurd (omega arith))
 
   -- ---- the code's loop: lo and hi close in, and the answer stays
   pub record Searching (n lo hi : ℕ) : Type 0 where
@@ -195,12 +195,12 @@ module _ (t : ℕ → Bool) where
       (either (t (lo + len / 2)))
 
   pub searching_end : (n lo hi : ℕ) → Searching n lo hi → hi ≤ lo → lo ≡ find t 0 n
-  searching_end n lo hi s g = sym (find-done lo hi g) ∙ s.same
+  searching_end n lo hi s g = sym (find_done lo hi g) ∙ s.same
 
 -- ---- the answer of a call
 
 pub found_within : (t : ℕ → Bool) (n : ℕ) {found : ℕ} → found ≡ find t 0 n → found ≤ n
-found_within t n e = rw e (find-within t n)
+found_within t n e = rw e (find_within t n)
 
 -- on any table, the field before the answer is one of the n, and it is at most the key
 

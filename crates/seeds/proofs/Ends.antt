@@ -10,12 +10,12 @@ use lib.Dec.{eqb, ltb}
 use lib.ListN.{length, get_or}
 use borrow.Author.Tests.{ltb-true, lt-ltb, le-leb, eqb-true, eq-eqb, ne_eqb}
 use Rattle.model.specs.Tests.{both, all}
-use Rattle.model.proofs.Tests.{same_test, both_true, both_left, both_right, both_first, all-at, all_from, pick_true, pick_false}
+use Rattle.model.proofs.Tests.{same_test, both_true, both_left, both_right, both_first, all_at, all_from, pick_true, pick_false}
 use Rattle.gather_core.specs.Gather.{up_at, rises}
 use Rattle.gather_core.specs.Seeds.{start_of, seed_at, seeds_fit, windows}
 use Rattle.model.proofs.Counted.{and_both, flag_step}
 use Rattle.planning.specs.Refusals.{given_fit, ends_of}
-use Rattle.planning.proofs.Dividing.{climbs, seed-fits, rises_next}
+use Rattle.planning.proofs.Dividing.{climbs, seed_fits, rises_next}
 use Rattle.seeds.specs.Ends.{ends_rise, near, near_at}
 
 -- seed i has a row, and ends within n rows
@@ -26,23 +26,23 @@ pub record Following (n : ℕ) (ends : List ℕ) : Type 0 where
 -- ---- the first part of test 4
 
 module _ (n : ℕ) (ends : List ℕ) (e : ends_rise n ends ≡ true) where
-  ends-rises : rises ends ≡ true
+  ends_rises : rises ends ≡ true
   unfolding ends_rise
-  ends-rises = both_right _ _ (both_left _ _ e)
+  ends_rises = both_right _ _ (both_left _ _ e)
 
   last_end : get_or ends (length ends - 1) 0 ≡ n
   unfolding ends_rise
   last_end = eqb-true _ _ (both_right _ _ e)
 
-  end-some : (i : ℕ) → i < length ends → start_of ends i < get_or ends i 0
+  end_some : (i : ℕ) → i < length ends → start_of ends i < get_or ends i 0
   unfolding start_of ends_rise
-  end-some zero h = ltb-true _ _ (both_left _ _ (both_left _ _ e))
-  end-some (suc i) h = rises_next ends ends-rises i (omega arith)
+  end_some zero h = ltb-true _ _ (both_left _ _ (both_left _ _ e))
+  end_some (suc i) h = rises_next ends ends_rises i (omega arith)
 
   pub rise_following : Following n ends
   rise_following =
-      let up = climbs (λ (k : ℕ). get_or ends k 0) (length ends - 1) (rises_next ends ends-rises) in
-      record { some = end-some; inside = λ i h. omega (arith, last_end, up i (length ends - 1) (omega arith) (omega arith)) }
+      let up = climbs (λ (k : ℕ). get_or ends k 0) (length ends - 1) (rises_next ends ends_rises) in
+      record { some = end_some; inside = λ i h. omega (arith, last_end, up i (length ends - 1) (omega arith) (omega arith)) }
 
 -- as it is computed
 pub ends_tested : (n : ℕ) (ends : List ℕ) (last : ℕ) (r : Bool) → last ≡ get_or ends (length ends - 1) 0 → r ≡ rises ends → (ltb 0 (get_or ends 0 0) && r && eqb last n) ≡ ends_rise n ends
@@ -51,9 +51,9 @@ ends_tested n ends last r l e = rw (l, e, and_both (ltb 0 (get_or ends 0 0)) (ri
 
 -- ---- the second part
 
-pub near-low : (rows : List ℕ) (a b : ℕ) → get_or rows (b - 1) 0 ≤ get_or rows a 0 → true ≡ near rows a b
+pub near_low : (rows : List ℕ) (a b : ℕ) → get_or rows (b - 1) 0 ≤ get_or rows a 0 → true ≡ near rows a b
 unfolding near
-near-low rows a b h = let z : get_or rows (b - 1) 0 - get_or rows a 0 ≤ 65534 = omega arith in sym (le-leb _ _ z)
+near_low rows a b h = let z : get_or rows (b - 1) 0 - get_or rows a 0 ≤ 65534 = omega arith in sym (le-leb _ _ z)
 
 -- a loop over the seeds, before seed i
 pub record Nearing (rows ends : List ℕ) (ok : Bool) (a i : ℕ) : Type 0 where
@@ -88,12 +88,12 @@ module _ (rows ends : List ℕ) (some : 1 ≤ length ends) where
     fit-rises : ends_rise (length rows) ends ≡ true
     unfolding ends_rise seeds_fit seed_at start_of rises up_at
     fit-rises =
-        let up : (i : ℕ) → i < length ends - 1 → up_at ends i ≡ true = λ i h. rw add-one (both_left _ _ (seed-fits rows ends e (suc i) (omega arith))) in
-        both_true _ _ (both_true _ _ (both_left _ _ (seed-fits rows ends e 0 some)) (all_from (up_at ends) (length ends - 1) up)) (both_right _ _ e)
+        let up : (i : ℕ) → i < length ends - 1 → up_at ends i ≡ true = λ i h. rw add-one (both_left _ _ (seed_fits rows ends e (suc i) (omega arith))) in
+        both_true _ _ (both_true _ _ (both_left _ _ (seed_fits rows ends e 0 some)) (all_from (up_at ends) (length ends - 1) up)) (both_right _ _ e)
 
     fit-near : all (near_at rows ends) (length ends) ≡ true
     unfolding seed_at near_at near
-    fit-near = all_from (near_at rows ends) (length ends) (λ i h. both_right _ _ (seed-fits rows ends e i h))
+    fit-near = all_from (near_at rows ends) (length ends) (λ i h. both_right _ _ (seed_fits rows ends e i h))
 
   parts_fit : both (ends_rise (length rows) ends) (all (near_at rows ends) (length ends)) ≡ true → seeds_fit rows ends ≡ true
   unfolding seeds_fit seed_at near_at near
@@ -101,7 +101,7 @@ module _ (rows ends : List ℕ) (some : 1 ≤ length ends) where
       let r = both_left _ _ e in
       let f = rise_following (length rows) ends r in
       both_true _ _
-      (all_from (seed_at rows ends) (length ends) (λ i h. both_true _ _ (lt-ltb _ _ (f.some i h)) (all-at (near_at rows ends) (length ends) (both_right _ _ e) i h)))
+      (all_from (seed_at rows ends) (length ends) (λ i h. both_true _ _ (lt-ltb _ _ (f.some i h)) (all_at (near_at rows ends) (length ends) (both_right _ _ e) i h)))
       (eq-eqb _ _ (last_end (length rows) ends r))
 
   pub fit_parts : seeds_fit rows ends ≡ both (ends_rise (length rows) ends) (all (near_at rows ends) (length ends))
@@ -119,19 +119,19 @@ module _ (rows ends : List ℕ) (some : 1 ≤ length ends) where
 
 module _ (rows seeds : List ℕ) where
   module _ (z : length seeds ≡ 0) where
-    pub none-fit : given_fit rows seeds ≡ true
+    pub none_fit : given_fit rows seeds ≡ true
     unfolding given_fit
-    none-fit = pick_true _ _ (eq-eqb _ _ z)
+    none_fit = pick_true _ _ (eq-eqb _ _ z)
 
-    pub none-ends : ends_of rows seeds ≡ windows rows
+    pub none_ends : ends_of rows seeds ≡ windows rows
     unfolding ends_of
-    none-ends = pick_true _ _ (eq-eqb _ _ z)
+    none_ends = pick_true _ _ (eq-eqb _ _ z)
 
   module _ (nz : length seeds ≡ 0 → ⊥) where
     pub given-fit : given_fit rows seeds ≡ seeds_fit rows seeds
     unfolding given_fit
     given-fit = pick_false _ _ (ne_eqb _ _ nz)
 
-    pub given-ends : ends_of rows seeds ≡ seeds
+    pub given_ends : ends_of rows seeds ≡ seeds
     unfolding ends_of
-    given-ends = pick_false _ _ (ne_eqb _ _ nz)
+    given_ends = pick_false _ _ (ne_eqb _ _ nz)

@@ -13,20 +13,20 @@ use Rattle.model.proofs.Tests.{both_true, both_left, both_right, both_first, str
 use Rattle.gather_core.specs.Gather.{rises}
 use Rattle.model.proofs.Counted.{and_both}
 use Rattle.planning.specs.Refusals.{coverage_fits, count_fits, rows_fit, given_fit, ends_of, room_fits, early_number}
-use Rattle.planning.proofs.Dividing.{fit_divides, divides_few, ends-fit}
+use Rattle.planning.proofs.Dividing.{fit_divides, divides_few, ends_fit}
 use Rattle.seeds.specs.declared.Early.{Early}
 use Rattle.seeds.specs.Judged.{Judged}
 
 -- ---- tests as they are computed
 
 -- a coverage of ordinals
-pub ordinals-none : (count : ℕ) → count ≡ 0 → coverage_fits 0 count ≡ false
+pub ordinals_none : (count : ℕ) → count ≡ 0 → coverage_fits 0 count ≡ false
 unfolding coverage_fits
-ordinals-none count e = both_first _ _ (le-ltb 0 count (omega arith))
+ordinals_none count e = both_first _ _ (le-ltb 0 count (omega arith))
 
-pub ordinals-some : (count : ℕ) → (count ≡ 0 → ⊥) → count ≤ 65535 → coverage_fits 0 count ≡ true
+pub ordinals_some : (count : ℕ) → (count ≡ 0 → ⊥) → count ≤ 65535 → coverage_fits 0 count ≡ true
 unfolding coverage_fits
-ordinals-some count n h =
+ordinals_some count n h =
     let l : 0 < count = strictly (omega arith) (λ (e : 0 ≡ count). n (sym e)) in
     both_true _ _ (lt-ltb 0 count l) (le-leb (count - 0) 4294967295 (omega arith))
 
@@ -38,15 +38,15 @@ pub ordinals_tested : (end : ℕ) (rows : List ℕ) (r : Bool) → r ≡ rises r
 unfolding rows_fit both
 ordinals_tested end rows r e = rw (le-leb 0 (get_or rows 0 0) (omega arith), e) (and_both (ltb (get_or rows (length rows - 1) 0) end) (rises rows))
 
-pub count-some : (rows : List ℕ) → count_fits rows ≡ true → (1 ≤ length rows) × (length rows ≤ 65535)
+pub count_some : (rows : List ℕ) → count_fits rows ≡ true → (1 ≤ length rows) × (length rows ≤ 65535)
 unfolding count_fits
-count-some rows e = (leb-true _ _ (both_left _ _ e), leb-true _ _ (both_right _ _ e))
+count_some rows e = (leb-true _ _ (both_left _ _ e), leb-true _ _ (both_right _ _ e))
 
 -- as many seeds as a number of 16 bits can count
-pub seeds-few : (rows seeds : List ℕ) → count_fits rows ≡ true → given_fit rows seeds ≡ true → length (ends_of rows seeds) ≤ 65535
-seeds-few rows seeds e t =
-    let n = count-some rows e in
-    omega (arith, divides_few (length rows) (ends_of rows seeds) (fit_divides rows (ends_of rows seeds) (ends-fit rows seeds n.0 n.1 t) n.0))
+pub seeds_few : (rows seeds : List ℕ) → count_fits rows ≡ true → given_fit rows seeds ≡ true → length (ends_of rows seeds) ≤ 65535
+seeds_few rows seeds e t =
+    let n = count_some rows e in
+    omega (arith, divides_few (length rows) (ends_of rows seeds) (fit_divides rows (ends_of rows seeds) (ends_fit rows seeds n.0 n.1 t) n.0))
 
 -- ---- the first test that is not met
 

@@ -9,12 +9,12 @@ use native.Mathlib.Omega.{arith}
 use lib.ListN.{length, get_or, take, drop}
 use Rattle.model.specs.Lists.{positions_of}
 use Rattle.model.proofs.Tests.{last_or_before}
-use Rattle.model.proofs.Rising.{rising-take, rising-drop}
+use Rattle.model.proofs.Rising.{rising_take, rising_drop}
 use Rattle.stats.specs.declared.Stats.{Stats}
 use Rattle.stats.specs.Statistics.{stats_of}
 use Rattle.stats.specs.Rows.{Covered}
 use Rattle.model.proofs.Positions.{positions_take, positions_drop}
-use Rattle.stats.proofs.Positions.{covered-few}
+use Rattle.stats.proofs.Positions.{covered_few}
 use Rattle.gather_core.specs.Seeds.{start_of, windows}
 use Rattle.links.specs.Tables.{put_stat}
 use Rattle.links.proofs.Tables.{stat_length, stat_here, stat_other}
@@ -23,18 +23,18 @@ use Rattle.planning.specs.Segments.{part, between}
 use Rattle.planning.proofs.Dividing.{part_length}
 use Rattle.seeds.specs.Ends.{Window}
 use Rattle.seeds.specs.Placed.{Seeded, Placed, Begun, Ranged}
-use Rattle.seeds.proofs.Ends.{Following, none-ends, given-ends}
-use Rattle.seeds.proofs.Windows.{windows-each, window_only, ends_following}
+use Rattle.seeds.proofs.Ends.{Following, none_ends, given_ends}
+use Rattle.seeds.proofs.Windows.{windows_each, window_only, ends_following}
 
 -- ---- a part of rows
 
 module _ (start : ℕ) (rows : List ℕ) (a b : ℕ) (k : Ranged start rows a b) where
-  pub part-covered : Covered start (take (b - a) (drop a rows))
+  pub part_covered : Covered start (take (b - a) (drop a rows))
   unfolding part
-  part-covered = let s = k.some in record { some = rw (part_length rows a b (omega arith) k.inside) (omega arith); rising = rising-take (b - a) (rising-drop a k.covered.rising) }
+  part_covered = let s = k.some in record { some = rw (part_length rows a b (omega arith) k.inside) (omega arith); rising = rising_take (b - a) (rising_drop a k.covered.rising) }
 
-  pub part-few : (1 ≤ length (take (b - a) (drop a rows))) × (length (take (b - a) (drop a rows)) ≤ 4294967295)
-  part-few = (part-covered.some, covered-few start (take (b - a) (drop a rows)) part-covered)
+  pub part_few : (1 ≤ length (take (b - a) (drop a rows))) × (length (take (b - a) (drop a rows)) ≤ 4294967295)
+  part_few = (part_covered.some, covered_few start (take (b - a) (drop a rows)) part_covered)
 
 -- its positions are the part of the positions
 pub part_positions : (start : ℕ) (rows : List ℕ) (a b : ℕ) → positions_of start (take (b - a) (drop a rows)) ≡ part (positions_of start rows) a b
@@ -47,21 +47,21 @@ module _ (rows seeds : List ℕ) (i a : ℕ) (k : Begun rows seeds i a) where
   begun_following : Following (length rows) (ends_of rows seeds)
   begun_following = ends_following rows seeds k.some k.fits
 
-  pub begun-inside : a < length rows
-  begun-inside = omega (arith, k.from, begun_following.some i k.seed, begun_following.inside i k.seed)
+  pub begun_inside : a < length rows
+  begun_inside = omega (arith, k.from, begun_following.some i k.seed, begun_following.inside i k.seed)
 
   pub window_ends : length seeds ≡ 0 → (b : ℕ) → Window rows a b → b ≡ get_or (ends_of rows seeds) i 0
   window_ends z b w =
-      let e = none-ends rows seeds z in
+      let e = none_ends rows seeds z in
       let from : a ≡ start_of (windows rows) i = rw e at k.from in
-      let own : Window rows a (get_or (windows rows) i 0) = rw from (windows-each rows k.some i (rw e at k.seed)) in
+      let own : Window rows a (get_or (windows rows) i 0) = rw from (windows_each rows k.some i (rw e at k.seed)) in
       rw e (window_only rows w own)
 
   pub given_inside : (length seeds ≡ 0 → ⊥) → i < length seeds
-  given_inside nz = rw (given-ends rows seeds nz) at k.seed
+  given_inside nz = rw (given_ends rows seeds nz) at k.seed
 
-  pub given-end : (length seeds ≡ 0 → ⊥) → (b : ℕ) → b ≡ get_or seeds i 0 → b ≡ get_or (ends_of rows seeds) i 0
-  given-end nz b e = rw (given-ends rows seeds nz) e
+  pub given_end : (length seeds ≡ 0 → ⊥) → (b : ℕ) → b ≡ get_or seeds i 0 → b ≡ get_or (ends_of rows seeds) i 0
+  given_end nz b e = rw (given_ends rows seeds nz) e
 
 -- ---- the loop over the seeds, before seed i
 

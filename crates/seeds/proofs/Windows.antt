@@ -12,10 +12,10 @@ use lib.Seq.{get_or_at}
 use Rattle.model.specs.Tests.{pick}
 use Rattle.model.proofs.Tests.{either, order, never, strictly, last_or_before, same_or_not, both_left, pick_true, pick_false}
 use Rattle.gather_core.specs.Seeds.{start_of, same_at, cuts, windows}
-use Rattle.gather_core.proofs.Windows.{cuts-same, cuts-more}
+use Rattle.gather_core.proofs.Windows.{cuts-same, cuts_more}
 use Rattle.planning.specs.Refusals.{given_fit, ends_of}
 use Rattle.seeds.specs.Ends.{together, Window}
-use Rattle.seeds.proofs.Ends.{Following, rise_following, fit_parts, none-ends, given-ends, given-fit}
+use Rattle.seeds.proofs.Ends.{Following, rise_following, fit_parts, none_ends, given_ends, given-fit}
 
 -- the test of a row and the next, as the code makes it
 together-same : (rows : List ℕ) (i : ℕ) → together (get_or rows i 0) (get_or rows (i + 1) 0) ≡ same_at rows i
@@ -43,7 +43,7 @@ counting_next rows n i k c h t q p l =
       so =
           ⊎_elim
           (λ t. let z : k ≡ 0 = e ∙ pick_true _ _ t in rw (add-one i, cuts-same rows i t) (omega arith))
-          (λ t. let z : k ≡ 1 = e ∙ pick_false _ _ t in rw (add-one i, cuts-more rows i t, length-append) (omega arith))
+          (λ t. let z : k ≡ 1 = e ∙ pick_false _ _ t in rw (add-one i, cuts_more rows i t, length-append) (omega arith))
           (either (same_at rows i));
     }
 
@@ -116,13 +116,13 @@ module _ (rows : List ℕ) where
       let c = cutting m (omega arith) in
       ⊎_elim
       (λ e. rw (cuts-same rows m e, ← add-one m) (cutting_same (cuts rows m) m c e))
-      (λ e. rw (cuts-more rows m e, ← add-one m) (cutting_more (cuts rows m) m c (omega arith) e))
+      (λ e. rw (cuts_more rows m e, ← add-one m) (cutting_more (cuts rows m) m c (omega arith) e))
       (either (same_at rows m))
 
   -- each window of rows is one
-  pub windows-each : 1 ≤ length rows → Windowed rows (windows rows)
+  pub windows_each : 1 ≤ length rows → Windowed rows (windows rows)
   unfolding windows
-  windows-each h =
+  windows_each h =
       let e : length rows - 1 + 1 ≡ length rows = omega arith in
       let c = cutting (length rows - 1) (omega arith) in
       windowed_more rows (cuts rows (length rows - 1)) (length rows) c.done (rw e at (tail_window (cuts rows (length rows - 1)) (length rows - 1) c (omega arith) (λ l. absurd (omega arith))))
@@ -170,9 +170,9 @@ pub ends_following : (rows seeds : List ℕ) → 1 ≤ length rows → given_fit
 ends_following rows seeds h t =
     ⊎_elim
     (λ z.
-    let w = windows-each rows h in
-    rw (none-ends rows seeds z) (record { some = λ i l. (w i l).some; inside = λ i l. (w i l).inside }))
+    let w = windows_each rows h in
+    rw (none_ends rows seeds z) (record { some = λ i l. (w i l).some; inside = λ i l. (w i l).inside }))
     (λ nz.
     let some : 1 ≤ length seeds = omega (arith, strictly (omega arith) (λ (e : 0 ≡ length seeds). nz (sym e))) in
-    rw (given-ends rows seeds nz) (rise_following (length rows) seeds (both_left _ _ (sym (fit_parts rows seeds some) ∙ sym (given-fit rows seeds nz) ∙ t))))
+    rw (given_ends rows seeds nz) (rise_following (length rows) seeds (both_left _ _ (sym (fit_parts rows seeds some) ∙ sym (given-fit rows seeds nz) ∙ t))))
     (same_or_not (length seeds) 0)

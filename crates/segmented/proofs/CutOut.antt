@@ -7,14 +7,14 @@ use Rattle.model.specs.Tests.{pick, flat, total}
 use Rattle.model.specs.Lists.{Rising, shift}
 use Rattle.model.proofs.Tests.{both_true, all_from, flat-same}
 use Rattle.model.proofs.Sums.{flat-total}
-use Rattle.model.proofs.Rising.{rising-room, rising_wider}
+use Rattle.model.proofs.Rising.{rising_room, rising_wider}
 use Rattle.directory.specs.Directory.{entry_of, part_of, tag_at, span_at, count_at, is_local}
 use Rattle.directory.specs.declared.Segment as stated
-use Rattle.directory.proofs.LaidOut.{Small, Sound, segments-stated, entry_laid, laid_accepts, names_laid, payload_laid}
+use Rattle.directory.proofs.LaidOut.{Small, Sound, segments_stated, entry_laid, laid_accepts, names_laid, payload_laid}
 use Rattle.forms.specs.Forms.{list_tag, runs_tag, local_accepts, local_names}
 use Rattle.forms.specs.RowSets.{RowSet}
-use Rattle.forms.proofs.Tags.{Other, local-cases, other_ne}
-use Rattle.forms.proofs.Laid.{LocalFits, fits-dense, fits-list, fits-runs, fits-bitmap, fits-missing, layout_accepts, layout_names}
+use Rattle.forms.proofs.Tags.{Other, local_cases, other_ne}
+use Rattle.forms.proofs.Laid.{LocalFits, fits_dense, fits_list, fits_runs, fits_bitmap, fits_missing, layout_accepts, layout_names}
 use Rattle.segmented.specs.Segmented.{part_accepts, part_names, segmented_accepts, segmented_names}
 use Rattle.segmented.specs.Cuts.{Segment, payload, entries_for, cut_layout, cut_rows, CutFits}
 
@@ -26,27 +26,27 @@ no_local tag o =
 
 local_byte : (tag : ℕ) → is_local tag ≡ true → tag < 256
 local_byte =
-    local-cases (λ (t : ℕ). is_local t ≡ true → t < 256)
+    local_cases (λ (t : ℕ). is_local t ≡ true → t < 256)
     (λ l. omega arith) (λ l. omega arith) (λ l. omega arith) (λ l. omega arith) (λ l. omega arith) (λ l. omega arith) (λ l. omega arith)
     (λ t o l. absurd (false≢true (sym (no_local t o) ∙ l)))
 
 -- ---- a local form over at most 65,535 positions holds every list of them, dense only that of all
 
 module _ {span : ℕ} {own : List ℕ} (held : RowSet span own) (narrow : span ≤ 65535) where
-  small-fields : Rising 0 65536 own
-  small-fields = rising_wider (omega arith) (omega arith) held.rising
+  small_fields : Rising 0 65536 own
+  small_fields = rising_wider (omega arith) (omega arith) held.rising
 
-  local-holds : (tag : ℕ) → is_local tag ≡ true → (tag ≡ 1 → length own ≡ span) → LocalFits tag span own
+  local_holds : (tag : ℕ) → is_local tag ≡ true → (tag ≡ 1 → length own ≡ span) → LocalFits tag span own
   unfolding is_local pick list_tag runs_tag width_of
-  local-holds tag =
-      local-cases (λ (t : ℕ). is_local t ≡ true → (t ≡ 1 → length own ≡ span) → LocalFits t span own)
-      (λ l full. fits-dense held.rising held.some held.most (full refl))
+  local_holds tag =
+      local_cases (λ (t : ℕ). is_local t ≡ true → (t ≡ 1 → length own ≡ span) → LocalFits t span own)
+      (λ l full. fits_dense held.rising held.some held.most (full refl))
       (λ l full. absurd (false≢true l))
-      (λ l full. fits-list held.rising held.some held.most false small-fields)
-      (λ l full. fits-runs held.rising held.some held.most false small-fields)
+      (λ l full. fits_list held.rising held.some held.most false small_fields)
+      (λ l full. fits_runs held.rising held.some held.most false small_fields)
       (λ l full. absurd (false≢true l))
-      (λ l full. fits-bitmap held.rising held.some held.most)
-      (λ l full. fits-missing held.rising held.some held.most narrow)
+      (λ l full. fits_bitmap held.rising held.some held.most)
+      (λ l full. fits_missing held.rising held.some held.most narrow)
       (λ t o l full. absurd (false≢true (sym (no_local t o) ∙ l)))
       tag
 
@@ -54,10 +54,10 @@ module _ {span : ℕ} {own : List ℕ} (held : RowSet span own) (narrow : span �
 
 module _ {span n : ℕ} {at : ℕ → Segment} (wide : span ≤ 4294967295) (c : CutFits span n at) where
   fits : (i : ℕ) → i < n → LocalFits (at i).tag (at i).span (at i).own
-  fits i l = let s = c.each i l in local-holds s.held s.narrow (at i).tag s.local s.full
+  fits i l = let s = c.each i l in local_holds s.held s.narrow (at i).tag s.local s.full
 
   room : (i : ℕ) → i < n → length (at i).own ≤ (at i).span
-  room i l = omega (arith, rising-room (omega arith) (c.each i l).held.rising)
+  room i l = omega (arith, rising_room (omega arith) (c.each i l).held.rising)
 
   -- each list of segments that do not overlap has room behind the one before
   before : (i : ℕ) → i < n → total (λ (j : ℕ). length (at j).own) (suc i) ≤ (at i).start + (at i).span
@@ -111,10 +111,10 @@ module _ {span n : ℕ} {at : ℕ → Segment} (wide : span ≤ 4294967295) (c :
   unfolding entries_for
   sizes = flat-total _ _ n (λ i l. refl)
 
-  pub cut-accepted : segmented_accepts span (cut_layout at n) ≡ true
+  pub cut_accepted : segmented_accepts span (cut_layout at n) ≡ true
   unfolding segmented_accepts cut_layout
-  cut-accepted = both_true _ _ (laid_accepts (entries_for at) n _ small sound sizes) (rw (segments-stated (entries_for at) n _ small) (all_from _ n part-accepted))
+  cut_accepted = both_true _ _ (laid_accepts (entries_for at) n _ small sound sizes) (rw (segments_stated (entries_for at) n _ small) (all_from _ n part-accepted))
 
-  pub cut-named : segmented_names (cut_layout at n) ≡ cut_rows at n
+  pub cut_named : segmented_names (cut_layout at n) ≡ cut_rows at n
   unfolding segmented_names cut_layout cut_rows entries_for
-  cut-named = names_laid (entries_for at) n _ small _ ∙ flat-same _ _ n (λ i l. ap (shift (at i).start) (part-named i l))
+  cut_named = names_laid (entries_for at) n _ small _ ∙ flat-same _ _ n (λ i l. ap (shift (at i).start) (part-named i l))

@@ -8,8 +8,8 @@ use Rattle.model.specs.Tests.{flat, total}
 use Rattle.model.proofs.Tests.{flat-same}
 use Rattle.model.proofs.Sums.{total-same}
 use Rattle.search.specs.Search.{entry}
-use Rattle.forms.proofs.Laws.{local-rising, local-length, local_layout_lem}
-use Rattle.forms.proofs.Bounds.{dense-all}
+use Rattle.forms.proofs.Laws.{local_rising, local_length, local_layout_lem}
+use Rattle.forms.proofs.Bounds.{dense_all}
 use Rattle.directory.specs.Directory.{stated_segments, start_at, span_at, count_at, offset_at, length_at, tag_at, part_of, directory_size, end_before, rows_before, bytes_before, piece_of, names_of}
 use Rattle.directory.specs.Layout.{entry_layout, directory_layout}
 use Rattle.directory.proofs.Parts.{Directory}
@@ -63,15 +63,15 @@ module _ (span : ℕ) (xs : List ℕ) (ok : segmented_accepts span xs ≡ true) 
   unfolding part_accepts part_names
   part_layout i l = local_layout_lem (tag_at xs i) (part_of xs i) (span_at xs i) (count_at xs i) (accepted_parts span xs ok i l) (part_bytes span xs ok bytes i)
 
-  count-is : (i : ℕ) → i < n → count_at xs i ≡ counts i
+  count_is : (i : ℕ) → i < n → count_at xs i ≡ counts i
   unfolding part_accepts part_names
-  count-is i l = sym (local-length (tag_at xs i) (part_of xs i) (span_at xs i) (count_at xs i) (accepted_parts span xs ok i l) (part_bytes span xs ok bytes i))
+  count_is i l = sym (local_length (tag_at xs i) (part_of xs i) (span_at xs i) (count_at xs i) (accepted_parts span xs ok i l) (part_bytes span xs ok bytes i))
 
   size_is : (i : ℕ) → i < n → length_at xs i ≡ sizes i
   size_is i l = sym (payload-length d i l) ∙ ap length (part_layout i l)
 
   rows_are : (i : ℕ) → i ≤ n → rows_before xs i ≡ total counts i
-  rows_are i h = total-same (count_at xs) counts i (λ j l. count-is j (omega arith))
+  rows_are i h = total-same (count_at xs) counts i (λ j l. count_is j (omega arith))
 
   bytes_are : (i : ℕ) → i ≤ n → bytes_before xs i ≡ total sizes i
   bytes_are i h = total-same (length_at xs) sizes i (λ j l. size_is j (omega arith))
@@ -84,14 +84,14 @@ module _ (span : ℕ) (xs : List ℕ) (ok : segmented_accepts span xs ≡ true) 
   abbrev part_place : ℕ → ℕ
   part_place i = directory_size n + bytes_before xs i
 
-  entry-is : (i : ℕ) → i < n → Stands xs (entry_place i) (entry_place (suc i)) (entry_layout (entries_for at) n i)
+  entry_is : (i : ℕ) → i < n → Stands xs (entry_place i) (entry_place (suc i)) (entry_layout (entries_for at) n i)
   unfolding entry_layout entries_for entry
-  entry-is i l =
+  entry_is i l =
       let f = d.fit i l in
       let room : 20 + i * 16 ≤ length xs = omega (arith, d.room) in
       behind (field bytes 4 (4 + i * 16) (8 + i * 16) (start_at xs i) (omega arith) (omega arith) refl)
       (behind (field bytes 2 (8 + i * 16) (10 + i * 16) (span_at xs i) (omega arith) (omega arith) refl)
-      (behind (field bytes 2 (10 + i * 16) (12 + i * 16) (counts i) (omega arith) (omega arith) (count-is i l))
+      (behind (field bytes 2 (10 + i * 16) (12 + i * 16) (counts i) (omega arith) (omega arith) (count_is i l))
       (behind (field bytes 2 (12 + i * 16) (14 + i * 16) (total counts i) (omega arith) (omega arith) (f.ordinal ∙ rows_are i (omega arith)))
       (behind (field bytes 2 (14 + i * 16) (16 + i * 16) (directory_size n + total sizes i) (omega arith) (omega arith) (f.payload ∙ rw (bytes_are i (omega arith))))
       (behind (field bytes 2 (16 + i * 16) (18 + i * 16) (sizes i) (omega arith) (omega arith) (size_is i l))
@@ -104,17 +104,17 @@ module _ (span : ℕ) (xs : List ℕ) (ok : segmented_accepts span xs ≡ true) 
       let four : 4 ≤ length xs = omega (arith, d.room) in
       let end : entry_place n ≡ part_place 0 = omega arith in
       behind (field bytes 2 0 2 (total counts n) (omega arith) refl (sym d.sum ∙ rows_are n (omega arith)))
-      (behind (field bytes 2 2 4 n (omega arith) refl refl) (rw (← end) (pieces (entry_layout (entries_for at) n) entry_place n entry-is)))
+      (behind (field bytes 2 2 4 n (omega arith) refl refl) (rw (← end) (pieces (entry_layout (entries_for at) n) entry_place n entry_is)))
 
-  part-is : (i : ℕ) → i < n → Stands xs (part_place i) (part_place (suc i)) (part_of xs i)
+  part_is : (i : ℕ) → i < n → Stands xs (part_place i) (part_place (suc i)) (part_of xs i)
   unfolding part_of total
-  part-is i l =
+  part_is i l =
       let e : offset_at xs i ≡ part_place i = (d.fit i l).payload in
       let s : part_place i + length_at xs i ≡ part_place (suc i) = omega arith in
       record { so = rw (e, ← s, ← drop-drop (length_at xs i) (part_place i) xs) (sym (take-append-drop (length_at xs i) (drop (part_place i) xs))) }
 
   parts_are : drop (part_place 0) xs ≡ flat (part_of xs) n
-  parts_are = (pieces (part_of xs) part_place n part-is).so ∙ rw (d.end, drop-length xs) (append-nil (flat (part_of xs) n))
+  parts_are = (pieces (part_of xs) part_place n part_is).so ∙ rw (d.end, drop-length xs) (append-nil (flat (part_of xs) n))
 
   -- ---- the body, its rows, and that its segments fit
 
@@ -128,9 +128,9 @@ module _ (span : ℕ) (xs : List ℕ) (ok : segmented_accepts span xs ≡ true) 
   unfolding segmented_names names_of piece_of cut_rows
   rows_cut = refl
 
-  dense-full : (i : ℕ) → i < n → tag_at xs i ≡ 1 → counts i ≡ span_at xs i
+  dense_full : (i : ℕ) → i < n → tag_at xs i ≡ 1 → counts i ≡ span_at xs i
   unfolding part_accepts
-  dense-full i l e = sym (count-is i l) ∙ dense-all (part_of xs i) (span_at xs i) (count_at xs i) (rw e at (accepted_parts span xs ok i l))
+  dense_full i l e = sym (count_is i l) ∙ dense_all (part_of xs i) (span_at xs i) (count_at xs i) (rw e at (accepted_parts span xs ok i l))
 
   u16 : (at : ℕ) → le 2 xs at ≤ 65535
   u16 at = omega (arith, le_bound 2 xs at bytes)
@@ -147,12 +147,12 @@ module _ (span : ℕ) (xs : List ℕ) (ok : segmented_accepts span xs ≡ true) 
         within = f.within;
         narrow = u16 (8 + i * 16);
         held = record {
-          rising = local-rising (tag_at xs i) (part_of xs i) (span_at xs i) (count_at xs i) (accepted_parts span xs ok i l) (part_bytes span xs ok bytes i);
-          some = rw (count-is i l) at f.rows.some;
-          most = rw (count-is i l) at f.rows.most;
+          rising = local_rising (tag_at xs i) (part_of xs i) (span_at xs i) (count_at xs i) (accepted_parts span xs ok i l) (part_bytes span xs ok bytes i);
+          some = rw (count_is i l) at f.rows.some;
+          most = rw (count_is i l) at f.rows.most;
         };
         local = f.local;
-        full = dense-full i l;
+        full = dense_full i l;
         short = rw (size_is i l) at (u16 (16 + i * 16));
       }
 

@@ -7,27 +7,27 @@ use Rattle.model.proofs.Counted.{both_pass}
 use Rattle.directory.specs.Directory.{stated_segments, start_at, offset_at, length_at, entry_of, part_of, directory_accepts}
 use Rattle.directory.specs.declared.Segment.{Segment}
 use Rattle.directory.proofs.Parts.{accepts_directory}
-use Rattle.directory.proofs.Facts.{payload-inside, Holds}
+use Rattle.directory.proofs.Facts.{payload_inside, Holds}
 use Rattle.forms.specs.Forms.{local_accepts}
 use Rattle.segmented.specs.Segmented.{part_accepts, segmented_accepts, part_by}
 
-pub cut-part : {e : Segment} (xs : List ℕ) (i : ℕ) → e ≡ entry_of xs i → part_by e xs ≡ part_of xs i
+pub cut_part : {e : Segment} (xs : List ℕ) (i : ℕ) → e ≡ entry_of xs i → part_by e xs ≡ part_of xs i
 unfolding entry_of part_of
-cut-part xs i q =
+cut_part xs i q =
     let s : offset_at xs i + length_at xs i - offset_at xs i ≡ length_at xs i = omega arith in
     rw (q, s)
 
 module _ (xs : List ℕ) (span i : ℕ) (ok : directory_accepts xs span ≡ true) (h : i < stated_segments xs) where
-  pub entry-room : 4 + 16 * (i + 1) ≤ length xs
-  entry-room = omega (arith, (accepts_directory xs span ok).room)
+  pub entry_room : 4 + 16 * (i + 1) ≤ length xs
+  entry_room = omega (arith, (accepts_directory xs span ok).room)
 
-  pub part-inside : {e : Segment} → e ≡ entry_of xs i → e.offset + e.length ≤ length xs
+  pub part_inside : {e : Segment} → e ≡ entry_of xs i → e.offset + e.length ≤ length xs
   unfolding entry_of
-  part-inside q = rw q (payload-inside (accepts_directory xs span ok) i h)
+  part_inside q = rw q (payload_inside (accepts_directory xs span ok) i h)
 
 pub part_checked : {e : Segment} {r : Bool} (xs : List ℕ) (i : ℕ) → e ≡ entry_of xs i → r ≡ local_accepts e.tag (part_by e xs) e.span e.count → r ≡ part_accepts xs i
 unfolding part_accepts entry_of
-part_checked {e} xs i q c = c ∙ rw (cut-part xs i q, q)
+part_checked {e} xs i q c = c ∙ rw (cut_part xs i q, q)
 
 -- ---- every part
 
@@ -45,9 +45,9 @@ parts_end {ok} {n} {i} xs l g e p = let q : i ≡ stated_segments xs = omega ari
 
 -- ---- an entry that was read, and what is known of its segment
 
-pub entry-start : {e : Segment} {p : ℕ} (xs : List ℕ) (i : ℕ) → e ≡ entry_of xs i → start_at xs i ≤ p → e.start ≤ p
+pub entry_start : {e : Segment} {p : ℕ} (xs : List ℕ) (i : ℕ) → e ≡ entry_of xs i → start_at xs i ≤ p → e.start ≤ p
 unfolding entry_of
-entry-start xs i q h = rw q h
+entry_start xs i q h = rw q h
 
 pub entry-holds : {e : Segment} {n k : ℕ} (xs : List ℕ) (i : ℕ) → e ≡ entry_of xs i → Holds xs n k i → (e.ordinal ≤ k) × (k < e.ordinal + e.count)
 unfolding entry_of

@@ -5,7 +5,7 @@ use lib.Seq.{take-nil}
 use borrow.Rule.Slice.PartMut.{mid_of, put_mid}
 use Rattle.model.specs.Lists.{walk_of, moved}
 use Rattle.model.specs.Answers.{over, Walked}
-use Rattle.model.proofs.Writing.{length_moved, over_none, over-length, over-take, over-drop, walks-none}
+use Rattle.model.proofs.Writing.{length_moved, over_none, over-length, over-take, over-drop, walks_none}
 use Rattle.directory.specs.Directory.{stated_segments, stated_count, start_at, count_at, ordinal_at, rows_before, entry_of}
 use Rattle.directory.specs.declared.Segment.{Segment}
 use Rattle.directory.proofs.Facts.{Holds}
@@ -43,9 +43,9 @@ going_start xs before i skip h l =
     record { rows = []; size = refl; fits = omega arith; front = sym (over_none before); walking = record { within = omega arith; rows = λ m. l; whole = rw e refl } }
 
 -- more rows behind those that stand already
-over-more : (rows W before : List ℕ) → rows ++ over W (drop (length rows) before) ≡ over (rows ++ W) before
+over_more : (rows W before : List ℕ) → rows ++ over W (drop (length rows) before) ≡ over (rows ++ W) before
 unfolding over
-over-more rows W before = rw (drop-drop (length W) (length rows) before, length-append rows W) (sym (append_assoc rows W (drop (length rows + length W) before)))
+over_more rows W before = rw (drop-drop (length W) (length rows) before, length-append rows W) (sym (append_assoc rows W (drop (length rows + length W) before)))
 
 module _ (span : ℕ) (xs : List ℕ) (ok : segmented_accepts span xs ≡ true) (bytes : Bytes xs) {before out : List ℕ} {k i from at : ℕ} (g : Going xs k before out i from at) where
   pub going_length : length out ≡ length before
@@ -64,7 +64,7 @@ module _ (span : ℕ) (xs : List ℕ) (ok : segmented_accepts span xs ≡ true) 
         let gs = g.size in
         let left : length out - at ≡ length before - length g.rows = omega (arith, going_length) in
         let whole : take at out ++ over part (drop at out) ≡ over (g.rows ++ part) before =
-        rw (g.front, ← gs, over-take g.rows before, over-drop g.rows before) (over-more g.rows part before) in
+        rw (g.front, ← gs, over-take g.rows before, over-drop g.rows before) (over_more g.rows part before) in
         record {
           rows = g.rows ++ part;
           size = length-append g.rows part ∙ omega (arith, w.number);
@@ -92,7 +92,7 @@ module _ (span : ℕ) (xs : List ℕ) (ok : segmented_accepts span xs ≡ true) 
   pub walk_none : {count : ℕ} → count ≡ stated_count xs → count ≤ k → Walked (walk_of (segmented_names xs) k (length before)) before before 0
   walk_none e h =
       let past : drop k (segmented_names xs) ≡ [] = drop_of_length-le (segmented_names xs) {i = k} (omega (arith, segmented_length span xs ok bytes)) in
-      walks-none before (rw past (take-nil (length before)))
+      walks_none before (rw past (take-nil (length before)))
 
   -- the walk from row number k - ordinal of the segment that holds k
   pub walk_held : {e : Segment} {after : List ℕ} {n i : ℕ} → Holds xs (stated_segments xs) k i → e ≡ entry_of xs i

@@ -10,15 +10,15 @@ use Rattle.single.specs.Layout.{plain_layout}
 
 -- ---- a list has no header
 
-pub list-view : (wide : Bool) (span : ℕ) (xs : List ℕ) → view_of (list_tag wide) span xs ≡ view (list_tag wide) false 0 span (fit (length xs / width_of wide)) 0
+pub list_view : (wide : Bool) (span : ℕ) (xs : List ℕ) → view_of (list_tag wide) span xs ≡ view (list_tag wide) false 0 span (fit (length xs / width_of wide)) 0
 unfolding view_of pick list_tag width_of
-list-view true span xs = refl
-list-view false span xs = refl
+list_view true span xs = refl
+list_view false span xs = refl
 
-pub list-fields : (wide : Bool) (xs : List ℕ) → fields_ok (list_tag wide) xs ≡ true
+pub list_fields : (wide : Bool) (xs : List ℕ) → fields_ok (list_tag wide) xs ≡ true
 unfolding fields_ok pick list_tag
-list-fields true xs = refl
-list-fields false xs = refl
+list_fields true xs = refl
+list_fields false xs = refl
 
 pub list_plain : (wide : Bool) (span : ℕ) (rows : List ℕ) → plain_layout (list_tag wide) span rows ≡ local_layout (list_tag wide) span rows
 unfolding plain_layout pick list_tag
@@ -27,15 +27,15 @@ list_plain false span rows = refl
 
 -- ---- runs have their count and number in front
 
-pub runs-view : (wide : Bool) (span : ℕ) (xs : List ℕ) → view_of (runs_tag wide) span xs ≡ view (runs_tag wide) false 0 span (le 2 xs 0) 4
+pub runs_view : (wide : Bool) (span : ℕ) (xs : List ℕ) → view_of (runs_tag wide) span xs ≡ view (runs_tag wide) false 0 span (le 2 xs 0) 4
 unfolding view_of pick runs_tag
-runs-view true span xs = refl
-runs-view false span xs = refl
+runs_view true span xs = refl
+runs_view false span xs = refl
 
-pub runs-fields : (wide : Bool) (xs : List ℕ) → fields_ok (runs_tag wide) xs ≡ eqb (le 2 xs 2) ((length xs - 4) / (width_of wide + 4))
+pub runs_fields : (wide : Bool) (xs : List ℕ) → fields_ok (runs_tag wide) xs ≡ eqb (le 2 xs 2) ((length xs - 4) / (width_of wide + 4))
 unfolding fields_ok pick runs_tag width_of
-runs-fields true xs = refl
-runs-fields false xs = refl
+runs_fields true xs = refl
+runs_fields false xs = refl
 
 pub runs_plain : (wide : Bool) (span : ℕ) (rows : List ℕ) → plain_layout (runs_tag wide) span rows ≡ digits 2 (length rows) ++ digits 2 (length (runs_of rows)) ++ local_layout (runs_tag wide) span rows
 unfolding plain_layout pick runs_tag

@@ -11,19 +11,19 @@ use lib.Seq.{get_or-append-add}
 use Rattle.model.specs.Tests.{pick}
 use Rattle.model.specs.Lists.{Rising, runs_of}
 use Rattle.model.proofs.Tests.{either, order}
-use Rattle.model.proofs.Runs.{runs_append, runs-some, runs-most}
-use Rattle.model.proofs.Rising.{rising-from, rising-below, rising-apart}
+use Rattle.model.proofs.Runs.{runs_append, runs_some, runs_most}
+use Rattle.model.proofs.Rising.{rising_from, rising_below, rising_apart}
 use Rattle.stats.specs.declared.Stats.{Stats}
 use Rattle.stats.specs.Statistics.{stats_of, joined, Sound, Neighbours}
 
 -- ---- statistics
 
 -- of an append, with no look at the rows
-pub stats-append : (xs ys : List ℕ) → 1 ≤ length xs → 1 ≤ length ys → stats_of (xs ++ ys) ≡ joined (stats_of xs) (stats_of ys)
+pub stats_append : (xs ys : List ℕ) → 1 ≤ length xs → 1 ≤ length ys → stats_of (xs ++ ys) ≡ joined (stats_of xs) (stats_of ys)
 unfolding stats_of joined
-stats-append [] ys h l = absurd (omega arith)
-stats-append (x ∷ xs) [] h l = absurd (omega arith)
-stats-append (x ∷ xs) (y ∷ ys) h l =
+stats_append [] ys h l = absurd (omega arith)
+stats_append (x ∷ xs) [] h l = absurd (omega arith)
+stats_append (x ∷ xs) (y ∷ ys) h l =
     let count : length ((x ∷ xs) ++ y ∷ ys) ≡ length (x ∷ xs) + length (y ∷ ys) = length-append (x ∷ xs) (y ∷ ys) in
     let at : length ((x ∷ xs) ++ y ∷ ys) - 1 ≡ length (x ∷ xs) + (length (y ∷ ys) - 1) = omega arith in
     let last : get_or ((x ∷ xs) ++ y ∷ ys) (length ((x ∷ xs) ++ y ∷ ys) - 1) 0 ≡ get_or (y ∷ ys) (length (y ∷ ys) - 1) 0 = ap (λ (i : ℕ). get_or ((x ∷ xs) ++ y ∷ ys) i 0) at ∙ get_or-append-add (x ∷ xs) (y ∷ ys) (length (y ∷ ys) - 1) 0 in
@@ -35,24 +35,24 @@ stats-append (x ∷ xs) (y ∷ ys) h l =
 pub reach : {a b : ℕ} {xs : List ℕ} → Rising a b xs → 1 ≤ length xs → get_or xs 0 0 + (length xs - 1) ≤ get_or xs (length xs - 1) 0
 reach {xs = xs} r h =
     ⊎_elim
-    (λ l. omega (arith, rising-apart r 0 (length xs - 1) l (omega arith)))
+    (λ l. omega (arith, rising_apart r 0 (length xs - 1) l (omega arith)))
     (λ (g : length xs - 1 ≤ 0). let e : length xs - 1 ≡ 0 = omega arith in rw e (omega arith))
     (order 0 (length xs - 1))
 
 some_runs : (xs : List ℕ) → 1 ≤ length xs → 1 ≤ length (runs_of xs)
 some_runs [] h = absurd (omega arith)
-some_runs (x ∷ xs) h = runs-some x xs
+some_runs (x ∷ xs) h = runs_some x xs
 
 -- of rising positions
-pub stats-sound : {a b : ℕ} {xs : List ℕ} → Rising a b xs → 1 ≤ length xs → b ≤ 4294967295 → Sound (stats_of xs)
+pub stats_sound : {a b : ℕ} {xs : List ℕ} → Rising a b xs → 1 ≤ length xs → b ≤ 4294967295 → Sound (stats_of xs)
 unfolding stats_of
-stats-sound {a} {b} {xs} r h l =
+stats_sound {a} {b} {xs} r h l =
     let up = reach r h in
     record {
       ordered = omega arith;
-      below = omega (arith, rising-below r (length xs - 1) (omega arith));
+      below = omega (arith, rising_below r (length xs - 1) (omega arith));
       some = some_runs xs h;
-      few = runs-most xs;
+      few = runs_most xs;
       inside = omega arith;
     }
 
@@ -72,7 +72,7 @@ joined-sound a b n =
 pub stats_neighbours : {a m b : ℕ} {xs ys : List ℕ} → Rising a m xs → Rising m b ys → 1 ≤ length xs → 1 ≤ length ys → m ≤ b → b ≤ 4294967295 → Neighbours (stats_of xs) (stats_of ys)
 unfolding stats_of
 stats_neighbours {xs = xs} {ys = ys} r s h k l n = record {
-  left = stats-sound r h (omega arith);
-  right = stats-sound s k n;
-  apart = omega (arith, rising-below r (length xs - 1) (omega arith), rising-from s 0 k);
+  left = stats_sound r h (omega arith);
+  right = stats_sound s k n;
+  apart = omega (arith, rising_below r (length xs - 1) (omega arith), rising_from s 0 k);
 }

@@ -6,27 +6,27 @@ use Prim.Native.Nat.{ℕ, ◌+◌, ◌-◌, ◌<◌, ◌≤◌}
 use native.Mathlib.Omega.{arith}
 use lib.ListN.{length, get_or}
 use Rattle.model.specs.Lists.{runs_of, positions_of}
-use Rattle.model.proofs.Positions.{length_positions, get_d_positions, positions_rising, runs_positions}
-use Rattle.model.proofs.Rising.{rising-room, rising-from, rising-below}
+use Rattle.model.proofs.Positions.{length_positions, get_or_positions, positions_rising, runs_positions}
+use Rattle.model.proofs.Rising.{rising_room, rising_from, rising_below}
 use Rattle.stats.specs.Statistics.{stats_of, Sound}
 use Rattle.stats.specs.Rows.{Covered}
-use Rattle.stats.proofs.Joining.{stats-sound}
+use Rattle.stats.proofs.Joining.{stats_sound}
 
-pub stats-rows : (start : ℕ) (rows : List ℕ) → Covered start rows → stats_of (positions_of start rows) ≡ record { first = get_or rows 0 0 - start; last = get_or rows (length rows - 1) 0 - start; count = length rows; runs = length (runs_of rows) }
+pub stats_rows : (start : ℕ) (rows : List ℕ) → Covered start rows → stats_of (positions_of start rows) ≡ record { first = get_or rows 0 0 - start; last = get_or rows (length rows - 1) 0 - start; count = length rows; runs = length (runs_of rows) }
 unfolding stats_of
-stats-rows start rows k =
+stats_rows start rows k =
     let s = k.some in
     let runs = runs_positions start (omega arith) k.rising in
-    rw (length_positions, get_d_positions start rows 0 s, get_d_positions start rows (length rows - 1) (omega arith), runs)
+    rw (length_positions, get_or_positions start rows 0 s, get_or_positions start rows (length rows - 1) (omega arith), runs)
 
 -- how many such rows there can be, and where their positions lie
-pub covered-few : (start : ℕ) (rows : List ℕ) → Covered start rows → length rows ≤ 4294967295
-covered-few start rows k = omega (arith, rising-room (omega arith) k.rising)
+pub covered_few : (start : ℕ) (rows : List ℕ) → Covered start rows → length rows ≤ 4294967295
+covered_few start rows k = omega (arith, rising_room (omega arith) k.rising)
 
-pub covered-at : (start : ℕ) (rows : List ℕ) (i : ℕ) → Covered start rows → i < length rows → (start ≤ get_or rows i 0) × (get_or rows i 0 < start + 4294967295)
-covered-at start rows i k h = (rising-from k.rising i h, rising-below k.rising i h)
+pub covered_at : (start : ℕ) (rows : List ℕ) (i : ℕ) → Covered start rows → i < length rows → (start ≤ get_or rows i 0) × (get_or rows i 0 < start + 4294967295)
+covered_at start rows i k h = (rising_from k.rising i h, rising_below k.rising i h)
 
-pub covered-sound : (start : ℕ) (rows : List ℕ) → Covered start rows → Sound (stats_of (positions_of start rows))
-covered-sound start rows k =
+pub covered_sound : (start : ℕ) (rows : List ℕ) → Covered start rows → Sound (stats_of (positions_of start rows))
+covered_sound start rows k =
     let e : start + 4294967295 - start ≡ 4294967295 = omega arith in
-    stats-sound (rw e at (positions_rising start (omega arith) k.rising)) (rw length_positions k.some) (omega arith)
+    stats_sound (rw e at (positions_rising start (omega arith) k.rising)) (rw length_positions k.some) (omega arith)

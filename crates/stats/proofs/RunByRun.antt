@@ -13,7 +13,7 @@ use lib.Seq.{drop-drop}
 use Rattle.model.specs.Tests.{pick}
 use Rattle.model.specs.Lists.{Run, run, onto, runs_of}
 use Rattle.model.proofs.Tests.{either, pick_true, pick_false}
-use Rattle.model.proofs.Taking.{drop-step}
+use Rattle.model.proofs.Taking.{drop_step}
 use Rattle.model.proofs.Runs.{runs_cons}
 use Rattle.stats.specs.Rows.{stretch, run_end}
 
@@ -27,11 +27,11 @@ stretch_off : (x y : ℕ) (ys : List ℕ) → eqb y (suc x) ≡ false → stretc
 unfolding stretch
 stretch_off x y ys e = pick_false _ _ e
 
-stretch-most : (x : ℕ) (xs : List ℕ) → stretch x xs ≤ length xs
+stretch_most : (x : ℕ) (xs : List ℕ) → stretch x xs ≤ length xs
 unfolding stretch
-stretch-most x [] = omega arith
-stretch-most x (y ∷ ys) =
-    ⊎_elim (λ e. rw (stretch_on x y ys e) (omega (arith, stretch-most y ys))) (λ e. rw (stretch_off x y ys e) (omega arith)) (either (eqb y (suc x)))
+stretch_most x [] = omega arith
+stretch_most x (y ∷ ys) =
+    ⊎_elim (λ e. rw (stretch_on x y ys e) (omega (arith, stretch_most y ys))) (λ e. rw (stretch_off x y ys e) (omega arith)) (either (eqb y (suc x)))
 
 pub first_run : (x : ℕ) (xs : List ℕ) → runs_of (x ∷ xs) ≡ run x (suc (stretch x xs)) ∷ runs_of (drop (stretch x xs) xs)
 unfolding runs_of onto stretch pick
@@ -46,15 +46,15 @@ unfolding run_end
 run_at rows i h =
     let n = stretch (get_or rows i 0) (drop (i + 1) rows) in
     let e : i + 1 + n - i ≡ suc n = omega arith in
-    rw (e, ← drop-drop n (i + 1) rows, drop-step rows i 0 h) (first_run (get_or rows i 0) (drop (i + 1) rows))
+    rw (e, ← drop-drop n (i + 1) rows, drop_step rows i 0 h) (first_run (get_or rows i 0) (drop (i + 1) rows))
 
-pub run-after : (rows : List ℕ) (i : ℕ) → i < run_end rows i
+pub run_after : (rows : List ℕ) (i : ℕ) → i < run_end rows i
 unfolding run_end
-run-after rows i = omega arith
+run_after rows i = omega arith
 
-pub run-within : (rows : List ℕ) (i : ℕ) → i < length rows → run_end rows i ≤ length rows
+pub run_within : (rows : List ℕ) (i : ℕ) → i < length rows → run_end rows i ≤ length rows
 unfolding run_end
-run-within rows i h = omega (arith, stretch-most (get_or rows i 0) (drop (i + 1) rows), length-drop (i + 1) rows)
+run_within rows i h = omega (arith, stretch_most (get_or rows i 0) (drop (i + 1) rows), length-drop (i + 1) rows)
 
 -- ---- the loop that looks for a run's end: up to j the run goes on
 
@@ -74,10 +74,10 @@ module _ (rows : List ℕ) (i : ℕ) where
         let b = k.begun in
         let z : j + 1 - 1 ≡ j = omega arith in
         let s = stretch_on (get_or rows (j - 1) 0) (get_or rows j 0) (drop (j + 1) rows) e in
-        record { begun = omega arith; within = omega arith; whole = k.whole ∙ rw (drop-step rows j 0 h, s, z) (omega arith) }
+        record { begun = omega arith; within = omega arith; whole = k.whole ∙ rw (drop_step rows j 0 h, s, z) (omega arith) }
 
     pub running_stop : eqb (get_or rows j 0) (suc (get_or rows (j - 1) 0)) ≡ false → j ≡ run_end rows i
-    running_stop e = sym (k.whole ∙ rw (drop-step rows j 0 h, stretch_off (get_or rows (j - 1) 0) (get_or rows j 0) (drop (j + 1) rows) e) (add-zero j))
+    running_stop e = sym (k.whole ∙ rw (drop_step rows j 0 h, stretch_off (get_or rows (j - 1) 0) (get_or rows j 0) (drop (j + 1) rows) e) (add-zero j))
 
   pub running_end : (j : ℕ) → Running rows i j → length rows ≤ j → j ≡ run_end rows i
   unfolding stretch
@@ -109,8 +109,8 @@ module _ (rows : List ℕ) where
       let x = get_or rows i 0 in
       let y = get_or rows (i + 1) 0 in
       let f : k ≡ pick {A = ℕ} (eqb y (suc x)) 0 1 = rw e at n.0 in
-      let one = drop-step rows i 0 (omega arith) in
-      let two = drop-step rows (i + 1) 0 h in
+      let one = drop_step rows i 0 (omega arith) in
+      let two = drop_step rows (i + 1) 0 h in
       let s : length (runs_of (drop i rows)) ≡ k + length (runs_of (drop (i + 1) rows)) = rw (one, two, f) (run_front x y (drop (i + 1 + 1) rows)) in
       record { few = omega (arith, c.few, n.1); within = omega arith; whole = omega (arith, c.whole, s) }
 
@@ -118,5 +118,5 @@ module _ (rows : List ℕ) where
   unfolding runs_of onto
   counting_end runs i c some h =
       let w = c.within in
-      let n : length (runs_of (drop i rows)) ≡ 1 = rw (drop-step rows i 0 (omega arith), drop_of_length-le rows h) refl in
+      let n : length (runs_of (drop i rows)) ≡ 1 = rw (drop_step rows i 0 (omega arith), drop_of_length-le rows h) refl in
       omega (arith, c.whole, n)

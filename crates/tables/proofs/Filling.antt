@@ -68,8 +68,8 @@ entries_none tag xs n = ap length (entries_other tag xs n)
 -- ---- what is decided with no store
 
 -- a refusal's number is not 0
-refused-not : {a : Answer} (k : ℕ) → refused (suc k) ≡ a → a.number ≡ 0 → ⊥
-refused-not k e z = let q : suc k ≡ 0 = same_number e ∙ z in omega arith
+refused_not : {a : Answer} (k : ℕ) → refused (suc k) ≡ a → a.number ≡ 0 → ⊥
+refused_not k e z = let q : suc k ≡ 0 = same_number e ∙ z in omega arith
 
 module _ (tag span : ℕ) (xs : List ℕ) where
   pub answer_refused : (room : ℕ) → accepts tag span xs ≡ false → refused 8 ≡ segments_answer tag span xs room
@@ -93,13 +93,13 @@ pub record Counted (tag span : ℕ) (xs : List ℕ) (old : List Segment) (n : �
   pub left : fill_to xs n old ≡ segments_left tag span xs old
 
 module _ (tag span : ℕ) (xs : List ℕ) (old : List Segment) where
-  left-refused : accepts tag span xs ≡ false → segments_left tag span xs old ≡ old
+  left_refused : accepts tag span xs ≡ false → segments_left tag span xs old ≡ old
   unfolding segments_left
-  left-refused bad = pick_false _ _ bad
+  left_refused bad = pick_false _ _ bad
 
-  left-short : accepts tag span xs ≡ true → length old < length (entries_of tag xs) → segments_left tag span xs old ≡ old
+  left_short : accepts tag span xs ≡ true → length old < length (entries_of tag xs) → segments_left tag span xs old ≡ old
   unfolding segments_left
-  left-short ok h = pick_true _ _ ok ∙ pick_false _ _ (lt-leb _ _ h)
+  left_short ok h = pick_true _ _ ok ∙ pick_false _ _ (lt-leb _ _ h)
 
   left_filled : accepts tag span xs ≡ true → length (entries_of tag xs) ≤ length old → segments_left tag span xs old ≡ over (entries_of tag xs) old
   unfolding segments_left
@@ -115,11 +115,11 @@ module _ (tag span : ℕ) (xs : List ℕ) (old : List Segment) where
       (λ (ok : accepts tag span xs ≡ true).
       ⊎_elim
       (λ (h : length old < length (entries_of tag xs)).
-      let e = answer_short tag span xs (length old) ok refl h in stays (refused-not 6 e) (ap written_in (sym e)) (left-short ok h))
+      let e = answer_short tag span xs (length old) ok refl h in stays (refused_not 6 e) (ap written_in (sym e)) (left_short ok h))
       (λ (h : length (entries_of tag xs) ≤ length old). fills ok h (ap written_in (sym (answer_written tag span xs (length old) ok refl h))) (left_filled ok h))
       (order (length old) (length (entries_of tag xs))))
       (λ (bad : accepts tag span xs ≡ false).
-      let e = answer_refused tag span xs (length old) bad in stays (refused-not 7 e) (ap written_in (sym e)) (left-refused bad))
+      let e = answer_refused tag span xs (length old) bad in stays (refused_not 7 e) (ap written_in (sym e)) (left_refused bad))
       (either (accepts tag span xs))
 
   counted_none : {n : ℕ} → n ≡ 0 → segments_left tag span xs old ≡ old → Counted tag span xs old n
@@ -134,12 +134,12 @@ module _ (tag span : ℕ) (xs : List ℕ) (old : List Segment) where
         left = fill_over xs n old (omega arith) ∙ rw (m, ← entries_nine tag xs e) (sym w);
       }
 
-  counted-other : {n : ℕ} → (tag ≡ 9 → ⊥) → n ≡ length (entries_of tag xs) → segments_left tag span xs old ≡ over (entries_of tag xs) old → Counted tag span xs old n
+  counted_other : {n : ℕ} → (tag ≡ 9 → ⊥) → n ≡ length (entries_of tag xs) → segments_left tag span xs old ≡ over (entries_of tag xs) old → Counted tag span xs old n
   unfolding over
-  counted-other o q w = counted_none (q ∙ entries_none tag xs o) (w ∙ ap (λ (l : List Segment). over l old) (entries_other tag xs o))
+  counted_other o q w = counted_none (q ∙ entries_none tag xs o) (w ∙ ap (λ (l : List Segment). over l old) (entries_other tag xs o))
 
   pub counted_is : {n : ℕ} → n ≡ written_in (segments_answer tag span xs (length old)) → Counted tag span xs old n
   counted_is q =
       by_case
       (λ r z e. counted_none (q ∙ z) e)
-      (λ ok h k w. ⊎_elim (λ t. counted_nine ok t h (q ∙ k) w) (λ o. counted-other o (q ∙ k) w) (same_or_not tag 9))
+      (λ ok h k w. ⊎_elim (λ t. counted_nine ok t h (q ∙ k) w) (λ o. counted_other o (q ∙ k) w) (same_or_not tag 9))

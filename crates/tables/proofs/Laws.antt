@@ -9,7 +9,7 @@ use native.Mathlib.Omega.{arith}
 use lib.ListN.{length, get_or, drop, get_or-append}
 use borrow.Author.Tests.{eq-eqb, ne_eqb, lt-ltb, le-ltb}
 use Rattle.model.specs.Answers.{accepted, over}
-use Rattle.model.proofs.Tests.{same_or_not, pick_true, pick_false, get_d_tabulate}
+use Rattle.model.proofs.Tests.{same_or_not, pick_true, pick_false, get_or-tabulate}
 use Rattle.model.proofs.Writing.{over-drop}
 use Rattle.directory.specs.Directory.{stated_segments, entry_of}
 use Rattle.directory.specs.declared.Segment.{Segment}
@@ -23,9 +23,9 @@ use Rattle.tables.proofs.Filling.{entries_nine, entries_count, entries_none, by_
 
 module _ (tag span : ℕ) (xs : List ℕ) (old : List Segment) where
   -- two results that meet the contract are equal, the answer and the table
-  pub segments-same : (a b : Filled) (s t : List Segment) → filled_of a ≡ segments_answer tag span xs (length old) → filled_of b ≡ segments_answer tag span xs (length old)
+  pub segments_same : (a b : Filled) (s t : List Segment) → filled_of a ≡ segments_answer tag span xs (length old) → filled_of b ≡ segments_answer tag span xs (length old)
       → s ≡ segments_left tag span xs old → t ≡ segments_left tag span xs old → (a ≡ b) × (s ≡ t)
-  segments-same a b s t p q u v = (filled_same a b (p ∙ sym q), u ∙ sym v)
+  segments_same a b s t p q u v = (filled_same a b (p ∙ sym q), u ∙ sym v)
 
   -- ---- one by one
 
@@ -34,29 +34,29 @@ module _ (tag span : ℕ) (xs : List ℕ) (old : List Segment) where
   unfolding segment_answer
   entry_answer_lem {i} ok e l = sym (answers tag span xs ok (ap accepted (sym (pick_true _ _ (eq-eqb tag 9 e) ∙ pick_true _ _ (lt-ltb i (stated_segments xs) l)))))
 
-  over-at : {i : ℕ} (d : Segment) → tag ≡ 9 → i < stated_segments xs → get_or (over (entries_of tag xs) old) i d ≡ entry_of xs i
+  over_at : {i : ℕ} (d : Segment) → tag ≡ 9 → i < stated_segments xs → get_or (over (entries_of tag xs) old) i d ≡ entry_of xs i
   unfolding over
-  over-at {i} d e l =
+  over_at {i} d e l =
       get_or-append (entries_of tag xs) (drop (length (entries_of tag xs)) old) d i (omega (arith, entries_count tag xs e))
-      ∙ rw (entries_nine tag xs e) (get_d_tabulate (entry_of xs) (stated_segments xs) i d l)
+      ∙ rw (entries_nine tag xs e) (get_or-tabulate (entry_of xs) (stated_segments xs) i d l)
 
   -- record i of those that were written is what `rowset::segment` answers for i
-  pub segments-each : (i : ℕ) (d : Segment) → i < written_in (segments_answer tag span xs (length old)) → segment_answer tag span xs i ≡ accepted (values_of (get_or (segments_left tag span xs old) i d))
-  segments-each i d l =
+  pub segments_each : (i : ℕ) (d : Segment) → i < written_in (segments_answer tag span xs (length old)) → segment_answer tag span xs i ≡ accepted (values_of (get_or (segments_left tag span xs old) i d))
+  segments_each i d l =
       by_case tag span xs old
       (λ r z e. absurd (omega arith))
       (λ ok h k w.
       ⊎_elim
       (λ (t : tag ≡ 9).
       let m : i < stated_segments xs = omega (arith, entries_count tag xs t) in
-      entry_answer_lem ok t m ∙ ap (λ (s : Segment). accepted (values_of s)) (sym (ap (λ (ys : List Segment). get_or ys i d) w ∙ over-at d t m)))
+      entry_answer_lem ok t m ∙ ap (λ (s : Segment). accepted (values_of s)) (sym (ap (λ (ys : List Segment). get_or ys i d) w ∙ over_at d t m)))
       (λ (o : tag ≡ 9 → ⊥). absurd (omega (arith, entries_none tag xs o)))
       (same_or_not tag 9))
 
   -- where the call is not refused, `rowset::segment` has nothing past them
-  pub segments-all : (i : ℕ) → (segments_answer tag span xs (length old)).number ≡ 0 → written_in (segments_answer tag span xs (length old)) ≤ i → segment_answer tag span xs i ≡ accepted []
+  pub segments_all : (i : ℕ) → (segments_answer tag span xs (length old)).number ≡ 0 → written_in (segments_answer tag span xs (length old)) ≤ i → segment_answer tag span xs i ≡ accepted []
   unfolding segment_answer
-  segments-all i taken h =
+  segments_all i taken h =
       by_case tag span xs old
       (λ r z e. absurd (r taken))
       (λ ok g k w.
@@ -68,8 +68,8 @@ module _ (tag span : ℕ) (xs : List ℕ) (old : List Segment) where
       (same_or_not tag 9)))))
 
   -- the records past those that were written stay
-  pub segments-rest : drop (written_in (segments_answer tag span xs (length old))) (segments_left tag span xs old) ≡ drop (written_in (segments_answer tag span xs (length old))) old
-  segments-rest =
+  pub segments_rest : drop (written_in (segments_answer tag span xs (length old))) (segments_left tag span xs old) ≡ drop (written_in (segments_answer tag span xs (length old))) old
+  segments_rest =
       by_case tag span xs old
       (λ r z e. rw e)
       (λ ok h k w. rw (k, w) (over-drop (entries_of tag xs) old))

@@ -125,12 +125,12 @@ bits_moved k q w = rw add-zero at (bits_shift k q 0 w)
 
 -- ---- rising
 
-named-rising : {p b : ℕ} {l : List ℕ} (d : ℕ) → p < b → Rising (suc p) b l → Rising p b (named d p l)
+named_rising : {p b : ℕ} {l : List ℕ} (d : ℕ) → p < b → Rising (suc p) b l → Rising p b (named d p l)
 unfolding named
-named-rising zero h r = rising_wider (omega arith) (omega arith) r
-named-rising (suc d) h r = more (le_refl _) h r
+named_rising zero h r = rising_wider (omega arith) (omega arith) r
+named_rising (suc d) h r = more (le_refl _) h r
 
 pub bits_rising : (k p w : ℕ) → Rising p (p + k) (bits_from k p w)
 unfolding bits_from
 bits_rising zero p w = none
-bits_rising (suc k) p w = named-rising (w % 2) (omega arith) (rw (add-suc p k, ← suc-add p k) (bits_rising k (suc p) (w / 2)))
+bits_rising (suc k) p w = named_rising (w % 2) (omega arith) (rw (add-suc p k, ← suc-add p k) (bits_rising k (suc p) (w / 2)))

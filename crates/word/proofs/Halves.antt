@@ -9,8 +9,8 @@ use lib.ListN.{length, get_or, length-append, get_or-append}
 use lib.Count.{ones, ones_cat, count_trailing_zeros, under}
 use lib.Bits.{bit_and, and_step, and_self}
 use lib.Pow.{pow_pos, pow-add, shl-shr, mod-pow-add, mod-mod-pow}
-use Rattle.model.proofs.Rising.{rising-below}
-use Rattle.model.proofs.Append.{get_d_second}
+use Rattle.model.proofs.Rising.{rising_below}
+use Rattle.model.proofs.Append.{get_or_second}
 use Rattle.word.specs.Bits.{named, bits_from, place_in, Wanted, Halved}
 use Rattle.word.proofs.Bits.{bits_cat, bits_length, bits_count, bits_rising, mod_suc}
 
@@ -44,8 +44,8 @@ module _ (word width k base : ℕ) (big : 1 < width) (wanted : Wanted word width
   lower zero e = absurd (omega arith)
   lower (suc l) e = let q : width ≡ 2 ^ l * 2 = rw pow-suc at e in (l, omega arith, omega arith)
 
-  level-below : (m : ℕ) × (half ≡ 2 ^ m) × (width ≡ half + half)
-  level-below = lower wanted.level wanted.power
+  level_below : (m : ℕ) × (half ≡ 2 ^ m) × (width ≡ half + half)
+  level_below = lower wanted.level wanted.power
 
   abbrev low : List ℕ
   low = bits_from half base word
@@ -54,13 +54,13 @@ module _ (word width k base : ℕ) (big : 1 < width) (wanted : Wanted word width
   high = bits_from half (base + half) (word / 2 ^ half)
 
   parts : bits_from width base word ≡ low ++ high
-  parts = ap (λ (n : ℕ). bits_from n base word) level-below.2 ∙ bits_cat half half base word
+  parts = ap (λ (n : ℕ). bits_from n base word) level_below.2 ∙ bits_cat half half base word
 
   pub low_half : k < length (bits_from half 0 word) → Halved word width k base (record { word = word; k = k; base = base })
   low_half less =
       let l : k < length low = omega (arith, bits_count half 0 base word) in
       record {
-        wanted = record { level = level-below.0; power = level-below.1; inside = l; fits = omega (arith, wanted.fits) };
+        wanted = record { level = level_below.0; power = level_below.1; inside = l; fits = omega (arith, wanted.fits) };
         same = rw parts (sym (get_or-append low high 0 k l));
       }
 
@@ -70,26 +70,26 @@ module _ (word width k base : ℕ) (big : 1 < width) (wanted : Wanted word width
       let l : length low ≤ k = omega arith in
       record {
         wanted = record {
-          level = level-below.0;
-          power = level-below.1;
+          level = level_below.0;
+          power = level_below.1;
           inside = omega (arith, wanted.inside, simp length-append at (ap length parts));
-          fits = omega (arith, wanted.fits, level-below.2);
+          fits = omega (arith, wanted.fits, level_below.2);
         };
-        same = rw (parts, q) (sym (get_d_second low high k l));
+        same = rw (parts, q) (sym (get_or_second low high k l));
       }
 
-named-only : (d p k : ℕ) → k < length (named d p []) → p ≡ get_or (named d p []) k 0
+named_only : (d p k : ℕ) → k < length (named d p []) → p ≡ get_or (named d p []) k 0
 unfolding named
-named-only zero p k h = absurd (omega arith)
-named-only (suc d) p zero h = refl
-named-only (suc d) p (suc k) h = absurd (omega arith)
+named_only zero p k h = absurd (omega arith)
+named_only (suc d) p zero h = refl
+named_only (suc d) p (suc k) h = absurd (omega arith)
 
 -- one digit is left
 pub last_digit : (word width k base : ℕ) → width ≤ 1 → Wanted word width k base → base ≡ place_in word width k base
 unfolding bits_from
 last_digit word width k base small wanted =
     let e : width ≡ 1 = omega (arith, wanted.power, pow_pos wanted.level) in
-    rw e (named-only (word % 2) base k (rw e at wanted.inside))
+    rw e (named_only (word % 2) base k (rw e at wanted.inside))
 
 -- ---- the lowest set digit, and the number without it
 
@@ -136,4 +136,4 @@ pub trailing_lt : (k w : ℕ) → 0 < w % 2 ^ k → count_trailing_zeros k w < k
 trailing_lt k w pos =
     let e = bits_next k 0 w pos in
     let h : 0 < length (bits_from k 0 w) = omega (arith, ap length e) in
-    omega (arith, rising-below (bits_rising k 0 w) 0 h, ap (λ (l : List ℕ). get_or l 0 0) e)
+    omega (arith, rising_below (bits_rising k 0 w) 0 h, ap (λ (l : List ℕ). get_or l 0 0) e)

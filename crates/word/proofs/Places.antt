@@ -9,19 +9,19 @@ use lib.Dec.{eqb}
 use lib.ListN.{length}
 use lib.Pow.{field, mod-mod-pow}
 use Rattle.model.specs.Lists.{Rising, below, has}
-use Rattle.model.proofs.Standing.{below_none, below-whole, has_here, has_outside}
-use Rattle.model.proofs.Append.{below-append, has-second}
+use Rattle.model.proofs.Standing.{below_none, below_whole, has_here, has_outside}
+use Rattle.model.proofs.Append.{below-append, has_second}
 use Rattle.word.specs.Bits.{named, bits_from}
 use Rattle.word.proofs.Bits.{bits_cut, bits_rising}
 
 -- counted from 0
-pub rising-places : (n w : ℕ) → Rising 0 n (bits_from n 0 w)
-rising-places n w = rw zero-add at (bits_rising n 0 w)
+pub rising_places : (n w : ℕ) → Rising 0 n (bits_from n 0 w)
+rising_places n w = rw zero-add at (bits_rising n 0 w)
 
 pub below_bits : (n p w : ℕ) → p ≤ n → below (bits_from n 0 w) p ≡ length (bits_from p 0 w)
 below_bits n p w h =
     rw (bits_cut n p 0 w, zero-add, below-append)
-    (omega (arith, below-whole (rising-places p w) p (omega arith), below_none (bits_rising (n - p) p (w / 2 ^ p)) p (omega arith)))
+    (omega (arith, below_whole (rising_places p w) p (omega arith), below_none (bits_rising (n - p) p (w / 2 ^ p)) p (omega arith)))
 
 has_named : {p b : ℕ} {l : List ℕ} (d : ℕ) → d < 2 → Rising (suc p) b l → has (named d p l) p ≡ eqb d 1
 unfolding named
@@ -36,7 +36,7 @@ has_bits n p w h =
     let le : p ≤ n = omega arith in
     let e : n - p ≡ suc (n - p - 1) = omega arith in
     let x = w / 2 ^ p in
-    rw (bits_cut n p 0 w, zero-add) (has-second _ (rising-places p w) p (omega arith)
+    rw (bits_cut n p 0 w, zero-add) (has_second _ (rising_places p w) p (omega arith)
     ∙ rw e (has_named (x % 2) (omega arith) (bits_rising (n - p - 1) (suc p) (x / 2))))
 
 -- a digit of the low part of a number is a digit of the number

@@ -3,7 +3,7 @@
 use native.Mathlib.Omega.{arith}
 use borrow.Author.Rules.{rules}
 use Rattle.assemble.specs.Sums.{also}
-use Rattle.assemble.proofs.Summing.{form-short}
+use Rattle.assemble.proofs.Summing.{form_short}
 use Rattle.assemble.proofs.also.Statement.{statement}
 use Rattle.assemble.proofs.also.Tie as tie
 
@@ -14,7 +14,7 @@ also_spec =
     (tie.spec
     (λ c κs. search rules)
     (λ c. search rules)
-    (λ c. omega (arith, form-short _ c.requires.short c.local_form-f.ensures))
+    (λ c. omega (arith, form_short _ c.requires.short c.local_form-f.ensures))
     (λ c κs. search rules)
     (λ c κs. search rules)
     (λ c κs. search rules)

@@ -3,7 +3,7 @@
 use Prim.Native.Nat.{◌-◌}
 use native.Mathlib.Omega.{arith}
 use Rattle.assemble.proofs.Records.{ahead}
-use Rattle.assemble.proofs.Summing.{Summing, first-sound, begun, adds, added, bounded, summed}
+use Rattle.assemble.proofs.Summing.{Summing, first_sound, begun, adds, added, bounded, summed}
 use Rattle.assemble.proofs.summarize.Statement.{statement}
 use Rattle.assemble.proofs.summarize.Tie as tie
 
@@ -20,7 +20,7 @@ summarize_spec =
     invariant-loop-x
     decreases-loop-x
     (λ c κs. omega (arith, c.requires.room))
-    (λ c κs. rw c.segment.ensures (first-sound c.requires))
+    (λ c κs. rw c.segment.ensures (first_sound c.requires))
     (λ c κs. omega (arith, c.requires.room))
     (λ c. rw (c.one-sum.ensures, c.segment.ensures, c.next-x.ensures.0) (begun c.requires))
     (λ c κs. omega (arith, c.requires.room))

@@ -1,7 +1,7 @@
 -- `bitmap::groups_right` meets its contract: each turn tests and counts one more group.
 -- Assumes nothing.
 use Rattle.std.proofs.Common.{◌-◌, ◌*◌, ◌∙◌, arith, rules}
-use Rattle.bitmap.proofs.Words.{before-most}
+use Rattle.bitmap.proofs.Words.{before_most}
 use Rattle.bitmap.proofs.Groups.{Counting, counting_start, counting_next, counting_end}
 use Rattle.bitmap.proofs.groups_right.Statement.{statement}
 use Rattle.bitmap.proofs.groups_right.Tie as tie
@@ -33,7 +33,7 @@ groups_right_spec =
     (λ c.
     let a = c.before.before.before.before.before.before.before.before.args in
     let g = c.before.before.before.before.loop-g.g in
-    omega (arith, before-most a.body.now a.span (256 * g)))
+    omega (arith, before_most a.body.now a.span (256 * g)))
     (λ c. omega arith)
     (λ c. omega arith)
     (λ c.

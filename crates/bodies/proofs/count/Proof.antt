@@ -1,7 +1,7 @@
 -- `bodies::count` meets its contract.
 -- Assumes nothing.
 use Rattle.fields.specs.Le.{Bytes}
-use Rattle.bodies.proofs.Laws.{nine_room, nine_count, other_header, other-count}
+use Rattle.bodies.proofs.Laws.{nine_room, nine_count, other_header, other_count}
 use native.Mathlib.Omega.{arith}
 use Rattle.bodies.proofs.count.Statement.{statement}
 use Rattle.bodies.proofs.count.Tie as tie
@@ -16,4 +16,4 @@ count_spec =
     (λ c κs. omega (arith, nine_room _ _ _ c.requires c.if-tag-eq9.true))
     (λ c. nine_count _ _ _ c.requires c.if-tag-eq9.true (bytes c.before.before) c.read16.ensures)
     (λ c κs. other_header _ _ _ c.requires c.if-tag-eq9.false)
-    (λ c. other-count _ _ _ c.requires c.if-tag-eq9.false c.parse.ensures (bytes c.before.before)))
+    (λ c. other_count _ _ _ c.requires c.if-tag-eq9.false c.parse.ensures (bytes c.before.before)))

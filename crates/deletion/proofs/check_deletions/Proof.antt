@@ -4,7 +4,7 @@ use mathlib.Core.Path.{sym, ap, ◌∙◌}
 use mathlib.Core.List.{◌∷◌, []}
 use Prim.Native.Nat.{ℕ}
 use Rattle.deletion.specs.Reading.{counted_of, check_answer}
-use Rattle.deletion.proofs.Sections.{refuses, answers, number-sound, sound-count}
+use Rattle.deletion.proofs.Sections.{refuses, answers, number-sound, sound_count}
 use borrow.Author.Rules.{rules}
 use Rattle.deletion.proofs.check_deletions.Statement.{statement}
 use Rattle.deletion.proofs.check_deletions.Tie as tie
@@ -19,4 +19,4 @@ check_deletions_spec =
     (λ c κs. search rules)
     (λ c.
     let n = c.number-refusal.ensures in
-    answers n c.if-refusal-ne0.false (ap (λ (k : ℕ). k ∷ []) (c.stated.ensures ∙ sound-count _ _ _ (number-sound _ _ _ _ (sym n ∙ c.if-refusal-ne0.false))))))
+    answers n c.if-refusal-ne0.false (ap (λ (k : ℕ). k ∷ []) (c.stated.ensures ∙ sound_count _ _ _ (number-sound _ _ _ _ (sym n ∙ c.if-refusal-ne0.false))))))

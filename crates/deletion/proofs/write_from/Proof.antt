@@ -4,7 +4,7 @@ use Prim.Native.Nat.{◌-◌}
 use native.Mathlib.Omega.{arith}
 use Rattle.fields.specs.Le.{Bytes}
 use Rattle.bodies.specs.Bodies.{names}
-use Rattle.bodies.proofs.Laws.{names-few}
+use Rattle.bodies.proofs.Laws.{names_few}
 use Rattle.deletion.proofs.Walking.{Filling, filling_start, filling_length, filling_next, filling_end}
 use Rattle.deletion.proofs.write_from.Statement.{statement}
 use Rattle.deletion.proofs.write_from.Tie as tie
@@ -27,7 +27,7 @@ write_from_spec =
     (λ c. filling_start _ _ _ _ c.requires.1 c.requires.2)
     (λ c. omega arith)
     (λ c κs. tt)
-    (λ c. omega (arith, c.loop-i.invariant.left, names-few _ _ _ c.requires.0 (bytes c.before.before.before.before)))
+    (λ c. omega (arith, c.loop-i.invariant.left, names_few _ _ _ c.requires.0 (bytes c.before.before.before.before)))
     (λ c κs.
     let inv = c.loop-i.invariant in
     (c.requires.0, omega (arith, c.page_of-m.ensures), omega (arith, inv.left, c.page_of-m.ensures), omega (arith, inv.room, filling_length inv, c.page_of-m.ensures)))

@@ -6,7 +6,7 @@ use Prim.Native.Nat.{ℕ}
 use native.Mathlib.Omega.{arith}
 use lib.Seq.{sets}
 use Rattle.fields.specs.Le.{Bytes}
-use Rattle.bodies.proofs.Laws.{names-few}
+use Rattle.bodies.proofs.Laws.{names_few}
 use Rattle.deletion.proofs.Walking.{page_front, page_room, page_narrow}
 use borrow.Author.Rules.{rules}
 use Rattle.deletion.proofs.write_page.Statement.{statement}
@@ -19,7 +19,7 @@ pub write_page_spec : {M : Type 1} → statement M
 write_page_spec =
     tie.close
     (tie.spec
-    (λ c. omega (arith, c.requires.2, names-few _ _ _ c.requires.0 (bytes c.before)))
+    (λ c. omega (arith, c.requires.2, names_few _ _ _ c.requires.0 (bytes c.before)))
     (λ c. search rules)
     (λ c κs. search rules)
     (λ c. search rules)

@@ -1,7 +1,7 @@
 -- `directory::fits` meets its contract.
 -- Assumes nothing.
 use borrow.Author.Rules.{rules}
-use Rattle.directory.proofs.Checking.{fits-is}
+use Rattle.directory.proofs.Checking.{fits_is}
 use Rattle.directory.proofs.fits.Statement.{statement}
 use Rattle.directory.proofs.fits.Tie as tie
 
@@ -17,4 +17,4 @@ fits_spec =
     (λ c κs. search rules)
     (λ c. search rules)
     (λ c. search rules)
-    (λ c. fits-is _ _ _ _ _ _ c.before.before.before.counted.ensures c.before.before.is_local.ensures))
+    (λ c. fits_is _ _ _ _ _ _ c.before.before.before.counted.ensures c.before.before.is_local.ensures))

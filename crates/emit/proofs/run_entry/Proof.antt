@@ -3,7 +3,7 @@
 use mathlib.Core.Path.{refl, ap}
 use Prim.Native.Nat.{ℕ, ◌+◌}
 use borrow.Author.Rules.{rules}
-use Rattle.emit.proofs.Pieces.{entry-fields}
+use Rattle.emit.proofs.Pieces.{entry_fields}
 use Rattle.emit.proofs.run_entry.Statement.{statement}
 use Rattle.emit.proofs.run_entry.Tie as tie
 
@@ -22,4 +22,4 @@ run_entry_spec =
     (λ c.
     let k = c.before.before.before.before.before.before in
     let m = k.before.before.before in
-    entry-fields _ _ _ _ m.before.before.before.before.before.args.at (ap (λ (w : ℕ). m.before.before.before.before.before.args.at + w) m.before.before.before.width.ensures.0) m.before.put_field.ensures k.put16.ensures c.before.before.put16-2.ensures refl))
+    entry_fields _ _ _ _ m.before.before.before.before.before.args.at (ap (λ (w : ℕ). m.before.before.before.before.before.args.at + w) m.before.before.before.width.ensures.0) m.before.put_field.ensures k.put16.ensures c.before.before.put16-2.ensures refl))

@@ -8,7 +8,7 @@ use Rattle.fields.specs.Le.{width_of}
 use Rattle.emit.proofs.Emitting.{emitting_length}
 use Rattle.emit.proofs.Forms.{runs_form}
 use Rattle.emit.proofs.Passing.{Passing, pass_start}
-use Rattle.emit.proofs.Loops.{row_at, ends, runs-fits, runs-next, runs_done}
+use Rattle.emit.proofs.Loops.{row_at, ends, runs_fits, runs_next, runs_done}
 use Rattle.emit_ordinals.proofs.runs_ordinals.Statement.{statement}
 use Rattle.emit_ordinals.proofs.runs_ordinals.Tie as tie
 
@@ -35,13 +35,13 @@ runs_ordinals_spec =
     (λ c κs.
     let k = c.before.before.before.before in
     let g = k.requires in
-    runs-fits _ _ _ _ _ g.0 k.loop-i.invariant k.loop-i-test.true c.position16.ensures c.run_end16-j.ensures g.2)
+    runs_fits _ _ _ _ _ g.0 k.loop-i.invariant k.loop-i-test.true c.position16.ensures c.run_end16-j.ensures g.2)
     (λ c.
     let k = c.before.before.before.before.before.before in
     omega (arith, ends _ _ k.loop-i-test.true k.run_end16-j.ensures))
     (λ c.
     let k = c.before.before.before.before.before.before in
     let g = k.requires in
-    runs-next _ _ _ _ _ g.0 k.loop-i.invariant k.loop-i-test.true c.position16.ensures k.run_end16-j.ensures c.run_entry-p.ensures)
+    runs_next _ _ _ _ _ g.0 k.loop-i.invariant k.loop-i-test.true c.position16.ensures k.run_end16-j.ensures c.run_entry-p.ensures)
     (λ c. emitting_length c.loop-i.invariant.so.so)
     (λ c. runs_done _ _ _ _ _ c.requires.0 c.loop-i.invariant c.loop-i-test.false))

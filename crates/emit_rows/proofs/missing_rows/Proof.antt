@@ -10,8 +10,8 @@ use Rattle.model.specs.Lists.{positions_of}
 use Rattle.emit.proofs.Emitting.{written-length, emitting_length}
 use Rattle.emit.proofs.Forms.{missing_form}
 use Rattle.emit.proofs.Rowing.{Rowing, Ahead}
-use Rattle.emit.proofs.Passing.{start-rows}
-use Rattle.emit.proofs.Loops.{row_at, ends, missing_ahead, missing-fits, missing-next, missing_last, missing-done}
+use Rattle.emit.proofs.Passing.{start_rows}
+use Rattle.emit.proofs.Loops.{row_at, ends, missing_ahead, missing_fits, missing_next, missing_last, missing_done}
 use Rattle.emit_rows.proofs.missing_rows.Statement.{statement}
 use Rattle.emit_rows.proofs.missing_rows.Tie as tie
 
@@ -34,7 +34,7 @@ missing_rows_spec =
     (tie.spec
     invariant-loop-i
     decreases-loop-i
-    (λ c. start-rows _ _ _ _ _ _ c.requires.0)
+    (λ c. start_rows _ _ _ _ _ _ c.requires.0)
     (λ c κs. search rules)
     (λ c. search rules)
     (λ c. search rules)
@@ -44,7 +44,7 @@ missing_rows_spec =
     let k = c.before.before.before.before in
     let g = k.requires in
     let a = front c.before in
-    (missing-fits _ _ _ _ _ g.0 g.1 k.loop-i.invariant k.loop-i-test.true c.position-first.ensures c.run_end-j.ensures, omega (arith, a.after, a.within)))
+    (missing_fits _ _ _ _ _ g.0 g.1 k.loop-i.invariant k.loop-i-test.true c.position-first.ensures c.run_end-j.ensures, omega (arith, a.after, a.within)))
     (λ c. let k = c.before.before.before.before.before.before in omega (arith, ends _ _ k.loop-i-test.true k.run_end-j.ensures))
     (λ c. omega (arith, (front c.before.before.before.before).within))
     (λ c. omega (arith, (front c.before.before.before.before).within))
@@ -52,7 +52,7 @@ missing_rows_spec =
     (λ c.
     let k = c.before.before.before.before.before.before in
     let g = k.requires in
-    missing-next _ _ _ _ _ g.0 g.1 k.loop-i.invariant k.loop-i-test.true c.position-first.ensures k.run_end-j.ensures c.list_run-p.ensures refl)
+    missing_next _ _ _ _ _ g.0 g.1 k.loop-i.invariant k.loop-i-test.true c.position-first.ensures k.run_end-j.ensures c.list_run-p.ensures refl)
     (λ c. c.loop-i.invariant.inside)
     (λ c κs.
     let g = c.requires in
@@ -61,4 +61,4 @@ missing_rows_spec =
     (λ c.
     let k = c.before.before.before.before in
     let g = k.requires in
-    missing-done _ _ _ _ _ g.0 g.1 k.loop-i.invariant k.loop-i-test.false c.list_run.ensures))
+    missing_done _ _ _ _ _ g.0 g.1 k.loop-i.invariant k.loop-i-test.false c.list_run.ensures))

@@ -1,6 +1,6 @@
 -- `encode::bitmap_header` meets its contract: four fields.
 -- Assumes nothing.
-use Rattle.encode.proofs.Headers.{bitmap-written}
+use Rattle.encode.proofs.Headers.{bitmap_written}
 use borrow.Author.Rules.{rules}
 use Rattle.encode.proofs.bitmap_header.Statement.{statement}
 use Rattle.encode.proofs.bitmap_header.Tie as tie
@@ -18,4 +18,4 @@ bitmap_header_spec =
     (λ c κs. search rules)
     (λ c. search rules)
     (λ c. search rules)
-    (λ c. bitmap-written _ _ _ _ c.put16.ensures c.put16-2.ensures c.put32.ensures c.put32-2.ensures))
+    (λ c. bitmap_written _ _ _ _ c.put16.ensures c.put16-2.ensures c.put32.ensures c.put32-2.ensures))

@@ -4,7 +4,7 @@ use mathlib.Core.Bool.{true, false}
 use native.Mathlib.Omega.{arith}
 use Rattle.forms.specs.Forms.{list_tag, runs_tag}
 use Rattle.encode.proofs.Headers.{written_none}
-use Rattle.encode.proofs.Locals.{local-list, local-runs, local-bitmap, local-missing, local-none, rising-wide, bitmap-room, room-same, written_same}
+use Rattle.encode.proofs.Locals.{local_list, local_runs, local_bitmap, local_missing, local_none, rising_wide, bitmap_room, room_same, written_same}
 use borrow.Author.Rules.{rules}
 use Rattle.encode.proofs.local_ordinals.Statement.{statement}
 use Rattle.encode.proofs.local_ordinals.Tie as tie
@@ -14,22 +14,22 @@ unfolding list_tag runs_tag
 local_ordinals_spec =
     tie.close
     (tie.spec
-    (λ c κs. let g = c.requires in (rising-wide (omega arith) g.0, room-same _ _ (local-list _ _ true c.if-tag-eq2.true) g.2))
+    (λ c κs. let g = c.requires in (rising_wide (omega arith) g.0, room_same _ _ (local_list _ _ true c.if-tag-eq2.true) g.2))
     (λ c. search rules)
-    (λ c. written_same (local-list _ _ true c.if-tag-eq2.true) c.list_ordinals.ensures)
-    (λ c κs. let g = c.requires in (rising-wide (omega arith) g.0, room-same _ _ (local-list _ _ false c.if-tag-eq3.true) g.2))
+    (λ c. written_same (local_list _ _ true c.if-tag-eq2.true) c.list_ordinals.ensures)
+    (λ c κs. let g = c.requires in (rising_wide (omega arith) g.0, room_same _ _ (local_list _ _ false c.if-tag-eq3.true) g.2))
     (λ c. search rules)
-    (λ c. written_same (local-list _ _ false c.if-tag-eq3.true) c.list_ordinals-then-tag-eq3.ensures)
-    (λ c κs. let g = c.requires in (rising-wide (omega arith) g.0, g.1, room-same _ _ (local-runs _ _ false c.if-tag-eq4.true) g.2))
+    (λ c. written_same (local_list _ _ false c.if-tag-eq3.true) c.list_ordinals-then-tag-eq3.ensures)
+    (λ c κs. let g = c.requires in (rising_wide (omega arith) g.0, g.1, room_same _ _ (local_runs _ _ false c.if-tag-eq4.true) g.2))
     (λ c. search rules)
-    (λ c. written_same (local-runs _ _ false c.if-tag-eq4.true) c.runs_ordinals.ensures)
-    (λ c κs. let g = c.requires in (rising-wide (omega arith) g.0, g.1, room-same _ _ (local-runs _ _ true c.if-tag-eq5.true) g.2))
+    (λ c. written_same (local_runs _ _ false c.if-tag-eq4.true) c.runs_ordinals.ensures)
+    (λ c κs. let g = c.requires in (rising_wide (omega arith) g.0, g.1, room_same _ _ (local_runs _ _ true c.if-tag-eq5.true) g.2))
     (λ c. search rules)
-    (λ c. written_same (local-runs _ _ true c.if-tag-eq5.true) c.runs_ordinals-then-tag-eq5.ensures)
-    (λ c κs. let g = c.requires in (g.0, bitmap-room _ _ _ _ _ c.if-tag-eq6.true g.0 g.2))
+    (λ c. written_same (local_runs _ _ true c.if-tag-eq5.true) c.runs_ordinals-then-tag-eq5.ensures)
+    (λ c κs. let g = c.requires in (g.0, bitmap_room _ _ _ _ _ c.if-tag-eq6.true g.0 g.2))
     (λ c. search rules)
-    (λ c. written_same (local-bitmap _ _ c.if-tag-eq6.true) c.bitmap_ordinals.ensures)
-    (λ c κs. let g = c.requires in (g.0, room-same _ _ (local-missing _ _ c.if-tag-eq7.true) g.2))
+    (λ c. written_same (local_bitmap _ _ c.if-tag-eq6.true) c.bitmap_ordinals.ensures)
+    (λ c κs. let g = c.requires in (g.0, room_same _ _ (local_missing _ _ c.if-tag-eq7.true) g.2))
     (λ c. search rules)
-    (λ c. written_same (local-missing _ _ c.if-tag-eq7.true) c.missing_ordinals.ensures)
-    (λ c. written_none _ _ (local-none _ _ _ c.if-tag-eq2.false c.if-tag-eq3.false c.if-tag-eq4.false c.if-tag-eq5.false c.if-tag-eq6.false c.if-tag-eq7.false)))
+    (λ c. written_same (local_missing _ _ c.if-tag-eq7.true) c.missing_ordinals.ensures)
+    (λ c. written_none _ _ (local_none _ _ _ c.if-tag-eq2.false c.if-tag-eq3.false c.if-tag-eq4.false c.if-tag-eq5.false c.if-tag-eq6.false c.if-tag-eq7.false)))

@@ -3,8 +3,8 @@
 use mathlib.Core.Path.{refl}
 use native.Mathlib.Omega.{arith}
 use borrow.Author.Rules.{rules}
-use Rattle.model.proofs.Rising.{rising-ends}
-use Rattle.encode.proofs.Wholes.{ends_in, bitmap-own, missing-own, bitmap_head, missing_head, rest-room, both-written}
+use Rattle.model.proofs.Rising.{rising_ends}
+use Rattle.encode.proofs.Wholes.{ends_in, bitmap_own, missing_own, bitmap_head, missing_head, rest_room, both-written}
 use Rattle.encode.proofs.trimmed_rows.Statement.{statement}
 use Rattle.encode.proofs.trimmed_rows.Tie as tie
 
@@ -23,20 +23,20 @@ trimmed_rows_spec =
     (λ c κs.
     let g = c.requires in
     let x = c.before.before.before.before.before.before in
-    (rising-ends g.0.rising x.extent-span.ensures, g.1, rest-room _ _ (bitmap-own _ _ g.0 x.position-base.ensures x.extent-span.ensures refl c.if-tag-eq6.true) c.bitmap_header-p.ensures g.2))
+    (rising_ends g.0.rising x.extent-span.ensures, g.1, rest_room _ _ (bitmap_own _ _ g.0 x.position-base.ensures x.extent-span.ensures refl c.if-tag-eq6.true) c.bitmap_header-p.ensures g.2))
     (λ c. search rules)
     (λ c.
     let g = c.requires in
     let x = c.before.before.before.before.before.before.before.before.before in
-    both-written _ _ (bitmap-own _ _ g.0 x.position-base.ensures x.extent-span.ensures refl c.if-tag-eq6.true) c.bitmap_header-p.ensures c.local_rows.ensures)
+    both-written _ _ (bitmap_own _ _ g.0 x.position-base.ensures x.extent-span.ensures refl c.if-tag-eq6.true) c.bitmap_header-p.ensures c.local_rows.ensures)
     (λ c. omega (arith, c.requires.1))
     (λ c κs. let x = c.before.before in let g = c.requires in missing_head _ _ g.0 x.position-base.ensures x.extent-span.ensures refl c.if-tag-eq6.false g.2)
     (λ c κs.
     let g = c.requires in
     let x = c.before.before.before.before.before.before in
-    (rising-ends g.0.rising x.extent-span.ensures, g.1, rest-room _ _ (missing-own _ _ g.0 x.position-base.ensures x.extent-span.ensures refl c.if-tag-eq6.false) c.missing_header-p.ensures g.2))
+    (rising_ends g.0.rising x.extent-span.ensures, g.1, rest_room _ _ (missing_own _ _ g.0 x.position-base.ensures x.extent-span.ensures refl c.if-tag-eq6.false) c.missing_header-p.ensures g.2))
     (λ c. search rules)
     (λ c.
     let g = c.requires in
     let x = c.before.before.before.before.before.before.before.before.before in
-    both-written _ _ (missing-own _ _ g.0 x.position-base.ensures x.extent-span.ensures refl c.if-tag-eq6.false) c.missing_header-p.ensures c.local_rows-2.ensures))
+    both-written _ _ (missing_own _ _ g.0 x.position-base.ensures x.extent-span.ensures refl c.if-tag-eq6.false) c.missing_header-p.ensures c.local_rows-2.ensures))

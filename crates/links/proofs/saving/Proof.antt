@@ -5,7 +5,7 @@ use native.Mathlib.Omega.{arith}
 use Prim.Native.Nat.{◌+◌, ◌-◌}
 use Rattle.cost.specs.Forms.{payload}
 use Rattle.links.specs.Pairs.{saves}
-use Rattle.links.proofs.Segments.{join_sound, admits_pays, saves-small}
+use Rattle.links.proofs.Segments.{join_sound, admits_pays, saves_small}
 use borrow.Author.Rules.{rules}
 use Rattle.links.proofs.saving.Statement.{statement}
 use Rattle.links.proofs.saving.Tie as tie
@@ -25,4 +25,4 @@ saving_spec =
     (λ c. let at = c.before.before.before.before in
     let e : 16 + c.payload.result + c.payload-2.result - c.payload-3.result ≡ saves at.args.a at.args.b
     = rw (c.payload.ensures.0, c.payload-2.ensures.0, c.payload-3.ensures.0, c.join.ensures) in
-    (e, omega (arith, saves-small at.args.a at.args.b at.requires.0 at.requires.1))))
+    (e, omega (arith, saves_small at.args.a at.args.b at.requires.0 at.requires.1))))

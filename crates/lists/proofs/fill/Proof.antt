@@ -2,7 +2,7 @@
 -- Assumes nothing.
 use Rattle.std.proofs.Common.{◌≡◌, ℕ, ◌+◌, ◌-◌, ◌%◌, refl, arith, rules}
 use Rattle.model.specs.Lists.{range}
-use Rattle.model.proofs.Ranges.{length-range, get_d_range}
+use Rattle.model.proofs.Ranges.{length-range, get_or-range}
 use Rattle.model.proofs.Writing.{Filled, filled_start, filled_length, filled_next, filled_whole}
 use Rattle.lists.proofs.fill.Statement.{statement}
 use Rattle.lists.proofs.fill.Tie as tie
@@ -34,7 +34,7 @@ fill_spec =
     (λ c. omega arith)
     (λ c.
     let l = c.before.loop-i-test.true in
-    filled_next c.before.before.loop-i.invariant _ (rw length-range l) (get_d_range _ _ _ l) refl (omega arith)
+    filled_next c.before.before.loop-i.invariant _ (rw length-range l) (get_or-range _ _ _ l) refl (omega arith)
     (summed _ _ _ c.before.before.before.wrapping_add_u32-first.ensures c.wrapping_add_u32.ensures))
     (λ c. filled_length c.before.loop-i.invariant)
     (λ c. filled_whole c.before.loop-i.invariant (rw length-range c.loop-i-test.false)))

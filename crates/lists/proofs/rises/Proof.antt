@@ -4,7 +4,7 @@ use Rattle.std.proofs.Common.{◌-◌, arith}
 use Rattle.fields.specs.Le.{width_of}
 use Rattle.lists.specs.Lists.{item}
 use Rattle.search.proofs.Entries.{slot}
-use Rattle.lists.proofs.Climbing.{Climbing, climbing_start, climbing_next, rises-none, rises-end}
+use Rattle.lists.proofs.Climbing.{Climbing, climbing_start, climbing_next, rises_none, rises_end}
 use Rattle.lists.proofs.rises.Statement.{statement}
 use Rattle.lists.proofs.rises.Tie as tie
 
@@ -20,7 +20,7 @@ rises_spec =
     (tie.spec
     invariant-loop-i
     decreases-loop-i
-    (λ c. rises-none _ _ c.if-n-eq0.true)
+    (λ c. rises_none _ _ c.if-n-eq0.true)
     (λ c. omega arith)
     (λ c. climbing_start _ _)
     (λ c κs. slot _ _ c.before.before.before.before.requires (omega arith))
@@ -30,4 +30,4 @@ rises_spec =
     (λ c. omega arith)
     (λ c. climbing_next _ _ _ c.before.before.before.loop-i.invariant c.before.before.loop-i-test.true c.before.item.ensures c.item-in-loop-i.ensures)
     (λ c κs. slot _ _ c.before.before.before.before.requires (omega arith))
-    (λ c. rises-end _ _ _ c.before.before.before.if-n-eq0.false c.before.before.loop-i.invariant c.before.loop-i-test.false c.item-2.ensures))
+    (λ c. rises_end _ _ _ c.before.before.before.if-n-eq0.false c.before.before.loop-i.invariant c.before.loop-i-test.false c.item-2.ensures))

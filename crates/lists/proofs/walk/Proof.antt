@@ -3,7 +3,7 @@
 use Rattle.std.proofs.Common.{ℕ, ◌+◌, ◌-◌, sym, zero-add, arith, rules}
 use Rattle.fields.specs.Le.{width_of}
 use Rattle.model.specs.Tests.{tabulate}
-use Rattle.model.proofs.Tests.{length-tabulate, get_d_tabulate}
+use Rattle.model.proofs.Tests.{length-tabulate, get_or-tabulate}
 use Rattle.model.proofs.Taking.{walk_tabulate}
 use Rattle.model.proofs.Writing.{Filled, filled_start, filled_length, filled_next, filled_whole, walked}
 use Rattle.search.proofs.Entries.{slot}
@@ -35,7 +35,7 @@ walk_spec =
     (λ c. omega arith)
     (λ c.
     let l = c.before.before.loop-i-test.true in
-    filled_next c.before.before.before.loop-i.invariant _ (rw length-tabulate l) (get_d_tabulate _ _ _ 0 l) (sym (zero-add _)) (omega (arith, c.before.before.before.before.room-n.ensures))
+    filled_next c.before.before.before.loop-i.invariant _ (rw length-tabulate l) (get_or-tabulate _ _ _ 0 l) (sym (zero-add _)) (omega (arith, c.before.before.before.before.room-n.ensures))
     (rw c.before.item.ensures at c.wrapping_add_u32.ensures))
     (λ c. filled_length c.before.loop-i.invariant)
     (λ c.

@@ -10,8 +10,8 @@ use Rattle.links.specs.Pairs.{Seeds}
 use Rattle.links.specs.Tables.{records, waiting, stat_at}
 use Rattle.merge.specs.Steps.{Offering, Merged, offers_of}
 use Rattle.merge.proofs.State.{State, state_most}
-use Rattle.merge.proofs.Begin.{begin, seeded, stats-kept}
-use Rattle.merge.proofs.Loop.{turn_asks, turn, end-count, end-merged}
+use Rattle.merge.proofs.Begin.{begin, seeded, stats_kept}
+use Rattle.merge.proofs.Loop.{turn_asks, turn, end_count, end_merged}
 use Rattle.merge.proofs.join_seeds.Statement.{statement}
 use Rattle.merge.proofs.join_seeds.Tie as tie
 
@@ -30,10 +30,10 @@ join_seeds_spec =
     decreases-loop-q
     (λ c κs. omega arith)
     (λ c κs.
-    (omega arith, subst (λ (f : ℕ → Stats). Seeds f c.args.n) (sym (stats-kept _ _ _ c.start.new.w c.start.ensures refl)) c.requires.1))
+    (omega arith, subst (λ (f : ℕ → Stats). Seeds f c.args.n) (sym (stats_kept _ _ _ c.start.new.w c.start.ensures refl)) c.requires.1))
     (λ c.
     let same = c.offer_all-q.ensures.1 in
-    let seeds = subst (λ (f : ℕ → Stats). Seeds f c.args.n) (sym (stats-kept _ _ _ _ c.start.ensures same)) c.requires.1 in
+    let seeds = subst (λ (f : ℕ → Stats). Seeds f c.args.n) (sym (stats_kept _ _ _ _ c.start.ensures same)) c.requires.1 in
     let o = subst (λ (t : List ℕ). Offering (stat_at t) c.args.n (c.args.n - 1) c.offer_all-q.new.w c.offer_all-q.result) (sym same) c.offer_all-q.ensures.0 in
     (refl, seeds, begin (omega arith) (omega arith) (seeded _ _ _ _ c.start.ensures same) o))
     (λ c. omega arith)
@@ -58,8 +58,8 @@ join_seeds_spec =
     c.loop-q.invariant.0 ∙ c.offer_all-q.auto.w ∙ c.start.auto.w)
     (λ c.
     let n = c.args.n in
-    let kept = stats-kept _ _ _ _ c.start.ensures c.offer_all-q.ensures.1 in
+    let kept = stats_kept _ _ _ _ c.start.ensures c.offer_all-q.ensures.1 in
     let inv = c.loop-q.invariant in
     let most : c.loop-q.taken ≤ 3 * (n - 1) = omega (arith, state_most inv.2 inv.1) in
     subst (λ (f : ℕ → Stats). (c.loop-q.taken ≡ offers_of f n) × ((c.loop-q.taken ≤ 3 * (n - 1)) × Merged f n (records n c.loop-q.w))) kept
-    (end-count (omega arith) inv.2, (most, end-merged (omega arith) inv.2))))
+    (end_count (omega arith) inv.2, (most, end_merged (omega arith) inv.2))))

@@ -4,7 +4,7 @@ use mathlib.Core.Path.{◌∙◌}
 use native.Mathlib.Omega.{arith}
 use borrow.Author.Rules.{rules}
 use Rattle.links.proofs.Tables.{records-field}
-use Rattle.merge.proofs.Adds.{added-left, added_none}
+use Rattle.merge.proofs.Adds.{added_left, added_none}
 use Rattle.merge.proofs.Steps.{left_reads}
 use Rattle.merge.proofs.offer_left.Statement.{statement}
 use Rattle.merge.proofs.offer_left.Tie as tie
@@ -21,5 +21,5 @@ offer_left_spec =
     (λ c.
     let args = c.args in
     let p = c.cell-p.ensures.0 ∙ records-field args.n args.w.now args.l 1 (omega arith) (omega arith) in
-    added-left _ _ _ (omega arith) p c.offer.ensures)
+    added_left _ _ _ (omega arith) p c.offer.ensures)
     (λ c. added_none _ _ (omega arith) c.requires.1.1.0))

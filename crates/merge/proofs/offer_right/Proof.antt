@@ -5,7 +5,7 @@ use native.Mathlib.Omega.{arith}
 use borrow.Author.Rules.{rules}
 use Rattle.links.specs.Tables.{records, next}
 use Rattle.links.proofs.Tables.{records-field}
-use Rattle.merge.proofs.Adds.{added-right, added_none}
+use Rattle.merge.proofs.Adds.{added_right, added_none}
 use Rattle.merge.proofs.Steps.{right_reads}
 use Rattle.merge.proofs.offer_right.Statement.{statement}
 use Rattle.merge.proofs.offer_right.Tie as tie
@@ -29,7 +29,7 @@ offer_right_spec =
     right_reads _ _ _ _ _ _ pre.0 pre.1.0 pre.1.1.0 (pre.1.1.1 (omega arith)) e)
     (λ c. search rules)
     (λ c.
-    added-right _ _ _ (omega arith) (after c.before.before.before.before.before) c.offer.ensures)
+    added_right _ _ _ (omega arith) (after c.before.before.before.before.before) c.offer.ensures)
     (λ c. search rules)
     (λ c.
     let at = given c.before in

@@ -8,7 +8,7 @@ use Rattle.planning.specs.Bodies.{form_for}
 use Rattle.planning.specs.Segments.{segments_of}
 use Rattle.planning.proofs.Narrow.{parts_some}
 use Rattle.planning.proofs.Holding.{held_parts}
-use Rattle.plan.proofs.Choice.{over-stats, tag_nine}
+use Rattle.plan.proofs.Choice.{over_stats, tag_nine}
 use Rattle.plan.proofs.decide.Statement.{statement}
 use Rattle.plan.proofs.decide.Tie as tie
 
@@ -35,7 +35,7 @@ decide_spec =
     })
     (λ c κs.
     let m = c.requires.2 in
-    rw (c.summarize-sum.ensures.stats _ _ (m.held _ c.join_seeds-offers.auto.w c.join_seeds-offers.ensures.1.1)) (over-stats m.rising m.rows m.wide))
+    rw (c.summarize-sum.ensures.stats _ _ (m.held _ c.join_seeds-offers.auto.w c.join_seeds-offers.ensures.1.1)) (over_stats m.rising m.rows m.wide))
     (λ c κs.
     let m = c.requires.2 in
     rw (c.summarize-sum.ensures.form _ _ (m.held _ c.join_seeds-offers.auto.w c.join_seeds-offers.ensures.1.1)) (tag_nine _))

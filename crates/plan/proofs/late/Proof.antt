@@ -2,7 +2,7 @@
 -- Assumes nothing.
 use mathlib.Core.Path.{◌∙◌}
 use borrow.Author.Rules.{rules}
-use Rattle.plan.proofs.Answers.{first-late}
+use Rattle.plan.proofs.Answers.{first_late}
 use Rattle.plan.proofs.late.Statement.{statement}
 use Rattle.plan.proofs.late.Tie as tie
 
@@ -13,4 +13,4 @@ late_spec =
     (λ c κs. search rules)
     (λ c κs. search rules)
     (λ c κs. search rules)
-    (λ c. c.first_of.ensures ∙ rw (c.six-long.ensures, c.seven-short.ensures) (first-late _ _ _)))
+    (λ c. c.first_of.ensures ∙ rw (c.six-long.ensures, c.seven-short.ensures) (first_late _ _ _)))

@@ -5,7 +5,7 @@ use mathlib.Core.List.{List, []}
 use Prim.Native.Nat.{ℕ}
 use borrow.Author.Rules.{rules}
 use Rattle.plan.specs.Plans.{planned_of}
-use Rattle.plan.proofs.Steps.{early-refused, seeds-few, Lent, lent, lent_inside, lent_tested, back_room, back_planned}
+use Rattle.plan.proofs.Steps.{early-refused, seeds_few, Lent, lent, lent_inside, lent_tested, back_room, back_planned}
 use Rattle.plan.proofs.plan_ordinals.Statement.{statement}
 use Rattle.plan.proofs.plan_ordinals.Tie as tie
 
@@ -30,7 +30,7 @@ plan_ordinals_spec =
     (tie.spec
     (λ c κs. search rules)
     (λ c. early-refused c.ordinals_early-judged.ensures _ _ _ refl c.if-judged-ne0.true)
-    (λ c κs. seeds-few (judged c).ordinals_early-judged.ensures c.if-judged-ne0.false)
+    (λ c κs. seeds_few (judged c).ordinals_early-judged.ensures c.if-judged-ne0.false)
     (λ c. search rules)
     (λ c. search rules)
     (λ c. lent_inside (words c))

@@ -6,7 +6,7 @@ use Prim.Native.Nat.{ℕ}
 use native.Mathlib.Omega.{arith}
 use borrow.Author.Rules.{rules}
 use Rattle.plan.specs.Plans.{planned_of}
-use Rattle.plan.proofs.Steps.{early-refused, seeds-few, Lent, lent, lent_inside, lent_tested, back_room, back_planned}
+use Rattle.plan.proofs.Steps.{early-refused, seeds_few, Lent, lent, lent_inside, lent_tested, back_room, back_planned}
 use Rattle.plan.proofs.plan_rows.Statement.{statement}
 use Rattle.plan.proofs.plan_rows.Tie as tie
 
@@ -31,7 +31,7 @@ plan_rows_spec =
     (tie.spec
     (λ c κs. search rules)
     (λ c. early-refused c.rows_early-early.ensures _ _ _ refl (λ e. omega (arith, e)))
-    (λ c κs. seeds-few c.before.before.rows_early-early.ensures (omega arith))
+    (λ c κs. seeds_few c.before.before.rows_early-early.ensures (omega arith))
     (λ c. search rules)
     (λ c. search rules)
     (λ c. lent_inside (words c))

@@ -5,7 +5,7 @@ use Prim.Native.Nat.{ℕ}
 use borrow.Author.Rules.{rules}
 use lib.ListN.{length}
 use Rattle.plan.specs.Plans.{planned_of}
-use Rattle.plan.proofs.Steps.{seedable, seeded, Chosen, chosen, late-refused, body_writable, body-small, body-planned}
+use Rattle.plan.proofs.Steps.{seedable, seeded, Chosen, chosen, late-refused, body_writable, body_small, body_planned}
 use Rattle.plan.proofs.planned_ordinals.Statement.{statement}
 use Rattle.plan.proofs.planned_ordinals.Tie as tie
 
@@ -38,8 +38,8 @@ planned_ordinals_spec =
     (λ c. search rules)
     (λ c. late-refused (tried c.before) c.if-k-ne0.true)
     (λ c κs. body_writable (tried c.before.before.before.before) c.if-k-ne0.false)
-    (λ c κs. body-small (tried c.before.before.before.before.before.before.before) c.if-k-ne0.false)
+    (λ c κs. body_small (tried c.before.before.before.before.before.before.before) c.if-k-ne0.false)
     (λ c. search rules)
     (λ c. search rules)
     (λ c.
-    body-planned (tried c.before.before.before.before.before.before.before.before) c.if-k-ne0.false c.made.ensures c.body_ordinals.ensures))
+    body_planned (tried c.before.before.before.before.before.before.before.before) c.if-k-ne0.false c.made.ensures c.body_ordinals.ensures))

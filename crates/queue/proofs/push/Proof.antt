@@ -2,7 +2,7 @@
 -- Assumes nothing.
 use mathlib.Core.Path.{refl, ◌∙◌}
 use native.Mathlib.Omega.{arith}
-use Rattle.queue.proofs.Turns.{Rising, rising-start, rising_turn, rising-end}
+use Rattle.queue.proofs.Turns.{Rising, rising_start, rising_turn, rising_end}
 use Rattle.queue.proofs.push.Lts.{else-loop-i-test, then-loop-i-test+then-k-above}
 use Rattle.queue.proofs.push.Statement.{statement}
 use Rattle.queue.proofs.push.Tie as tie
@@ -19,7 +19,7 @@ push_spec =
     (tie.spec
     invariant-loop-i
     decreases-loop-i
-    (λ c. rising-start _ c.requires.1)
+    (λ c. rising_start _ c.requires.1)
     (λ c. omega arith)
     (λ c κs. omega arith)
     (λ c κs. omega arith)
@@ -29,5 +29,5 @@ push_spec =
     (λ c κs. omega arith)
     (λ c. c.before.before.store-2.auto.h ∙ c.before.before.before.before.before.loop-i.invariant.len)
     (λ c.
-    rising-end _ c.requires.0 c.store-2.ensures c.loop-i.invariant refl
+    rising_end _ c.requires.0 c.store-2.ensures c.loop-i.invariant refl
     (λ z. elim c.loop-i-test.branch [ else-loop-i-test w ↦ omega arith | then-loop-i-test+then-k-above w ↦ omega (arith, w.load-above.ensures, w.if-k-above.true) ])))

@@ -3,7 +3,7 @@
 use Prim.Native.Nat.{◌-◌}
 use mathlib.Core.Path.{refl, ◌∙◌}
 use native.Mathlib.Omega.{arith}
-use Rattle.queue.proofs.Turns.{Sinking, sinking_start, sinking_turn, sinking_end, larger-under}
+use Rattle.queue.proofs.Turns.{Sinking, sinking_start, sinking_turn, sinking_end, larger_under}
 use Rattle.queue.proofs.settle.Lts.{else-loop-i-test, then-loop-i-test+then-below-k}
 use Rattle.queue.proofs.settle.Statement.{statement}
 use Rattle.queue.proofs.settle.Tie as tie
@@ -35,4 +35,4 @@ settle_spec =
     (λ c. c.before.before.store-2.auto.h ∙ c.before.before.before.before.before.loop-i.invariant.len)
     (λ c.
     sinking_end _ c.requires.0.1 c.store-2.ensures c.loop-i.invariant refl
-    (elim c.loop-i-test.branch [ else-loop-i-test w ↦ λ j p q e. absurd (omega (arith, w.loop-i-test.false)) | then-loop-i-test+then-below-k w ↦ larger-under w.larger-child.ensures _ (omega (arith, w.load-below.ensures, w.if-below-k.true)) ])))
+    (elim c.loop-i-test.branch [ else-loop-i-test w ↦ λ j p q e. absurd (omega (arith, w.loop-i-test.false)) | then-loop-i-test+then-below-k w ↦ larger_under w.larger-child.ensures _ (omega (arith, w.load-below.ensures, w.if-below-k.true)) ])))

@@ -3,7 +3,7 @@
 use mathlib.Core.Path.{refl}
 use borrow.Author.Rules.{rules}
 use Rattle.seeds.specs.Ends.{near}
-use Rattle.seeds.proofs.Ends.{near-low}
+use Rattle.seeds.proofs.Ends.{near_low}
 use Rattle.seeds.proofs.near.Statement.{statement}
 use Rattle.seeds.proofs.near.Tie as tie
 
@@ -17,6 +17,6 @@ near_spec =
     (λ c. search rules)
     (λ c. search rules)
     (λ c. search rules)
-    (λ c. let s = c.args in near-low s.rows.now s.a s.b c.if-last-first.true)
+    (λ c. let s = c.args in near_low s.rows.now s.a s.b c.if-last-first.true)
     (λ c. search rules)
     (λ c. refl))

@@ -3,7 +3,7 @@
 use borrow.Author.Rules.{rules}
 use Rattle.model.proofs.Counted.{test_holds, test_fails}
 use Rattle.planning.specs.Refusals.{count_fits}
-use Rattle.seeds.proofs.Judging.{count-some, seeds-few, fails_1, fails_2, fails_3, fails_4, last_judges}
+use Rattle.seeds.proofs.Judging.{count_some, seeds_few, fails_1, fails_2, fails_3, fails_4, last_judges}
 use Rattle.seeds.proofs.rows_early.Statement.{statement}
 use Rattle.seeds.proofs.rows_early.Tie as tie
 
@@ -20,7 +20,7 @@ rows_early_spec =
     (λ c.
     let e1 = c.before.before.before in
     fails_2 _ _ _ _ _ _ (test_holds e1.covers.ensures e1.if-not-covers.false) (test_fails c.count_fits.ensures c.if-not-count_fits.true) c.refused-then-not-count_fits.ensures)
-    (λ c κs. (count-some c.args.rows.now (test_holds c.count_fits.ensures c.if-not-count_fits.false)).0)
+    (λ c κs. (count_some c.args.rows.now (test_holds c.count_fits.ensures c.if-not-count_fits.false)).0)
     (λ c κs. search rules)
     (λ c.
     let e2 = c.before.before.before in
@@ -35,11 +35,11 @@ rows_early_spec =
     fails_4 _ _ _ _ _ _ (test_holds e1.covers.ensures e1.if-not-covers.false) (test_holds e2.count_fits.ensures e2.if-not-count_fits.false) (test_holds e3.rows_fit.ensures e3.if-not-rows_fit.false) (test_fails c.given_fit.ensures c.if-not-given_fit.true) c.refused-then-not-given_fit.ensures)
     (λ c κs.
     let e2 = c.before.before.before.before in
-    (count-some e2.args.rows.now (test_holds e2.count_fits.ensures e2.if-not-count_fits.false)).0)
+    (count_some e2.args.rows.now (test_holds e2.count_fits.ensures e2.if-not-count_fits.false)).0)
     (λ c κs.
     let e4 = c.before in
     let e2 = e4.before.before.before.before in
-    rw c.count_seeds.ensures (seeds-few _ _ (test_holds e2.count_fits.ensures e2.if-not-count_fits.false) (test_holds e4.given_fit.ensures e4.if-not-given_fit.false)))
+    rw c.count_seeds.ensures (seeds_few _ _ (test_holds e2.count_fits.ensures e2.if-not-count_fits.false) (test_holds e4.given_fit.ensures e4.if-not-given_fit.false)))
     (λ c.
     let e4 = c.before.before in
     let e3 = e4.before.before in

@@ -3,7 +3,7 @@
 use Rattle.std.proofs.Common.{◌+◌, ◌-◌, arith}
 use Rattle.fields.specs.Le.{Bytes}
 use Rattle.directory.specs.Directory.{rows_before}
-use Rattle.segmented.proofs.Laws.{entry-room}
+use Rattle.segmented.proofs.Laws.{entry_room}
 use Rattle.segmented.proofs.Named.{accepted_directory, directory_of, entry_readable, segment_walk}
 use Rattle.segmented.proofs.Walks.{Going, going_start, going_length, going_room, going_next, going_end, going_full}
 use Rattle.segmented.proofs.walk_from.Statement.{statement}
@@ -28,7 +28,7 @@ walk_from_spec =
     (λ c. going_start _ _ _ _ c.requires.1 c.requires.2)
     (λ c. going_length _ _ c.requires.0 (bytes c.before.before.before.before.before) c.loop-i.invariant)
     (λ c. going_full _ _ c.requires.0 (bytes c.before.before.before.before.before) c.loop-i.invariant (omega arith))
-    (λ c κs. entry-room _ _ _ (accepted_directory _ _ c.requires.0) (omega (arith, c.segments-n.ensures.0)))
+    (λ c κs. entry_room _ _ _ (accepted_directory _ _ c.requires.0) (omega (arith, c.segments-n.ensures.0)))
     (λ c κs. (entry_readable _ _ c.requires.0 _ (omega (arith, c.segments-n.ensures.0)) c.entry.ensures, omega (arith, going_length _ _ c.requires.0 (bytes c.before.before.before.before.before.before.before) c.loop-i.invariant)))
     (λ c. omega (arith, going_room _ _ c.requires.0 (bytes c.before.before.before.before.before.before.before.before.before.before) c.loop-i.invariant (omega (arith, c.segments-n.ensures.0)) (segment_walk _ _ c.requires.0 (bytes c.before.before.before.before.before.before.before.before.before.before) _ (omega (arith, c.segments-n.ensures.0)) c.entry.ensures _ _) c.walk_at-at.ensures))
     (λ c. omega arith)

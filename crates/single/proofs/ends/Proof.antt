@@ -2,8 +2,8 @@
 -- Assumes nothing.
 use Rattle.std.proofs.Common.{◌∙◌, ap₂, arith, rules}
 use Rattle.model.specs.Tests.{both}
-use Rattle.model.proofs.Counted.{and_both, counted-count}
-use Rattle.forms.proofs.Laws.{local-sized, local_counted, local_place_lem}
+use Rattle.model.proofs.Counted.{and_both, counted_count}
+use Rattle.forms.proofs.Laws.{local_sized_lem, local_counted, local_place_lem}
 use Rattle.single.proofs.Laws.{present_is}
 use Rattle.fields.specs.Le.{Bytes}
 use Rattle.single.proofs.ends.Statement.{statement}
@@ -16,10 +16,10 @@ pub ends_spec : {M : Type 1} → statement M
 ends_spec =
     tie.close
     (tie.spec
-    (λ c. absurd (omega (arith, (counted-count _ _ (local_counted _ _ _ _ c.requires)).some, (counted-count _ _ (local_counted _ _ _ _ c.requires)).within)))
-    (λ c κs. local-sized _ _ _ _ c.requires)
+    (λ c. absurd (omega (arith, (counted_count _ _ (local_counted _ _ _ _ c.requires)).some, (counted_count _ _ (local_counted _ _ _ _ c.requires)).within)))
+    (λ c κs. local_sized_lem _ _ _ _ c.requires)
     (λ c. search rules)
-    (λ c κs. local-sized _ _ _ _ c.requires)
+    (λ c κs. local_sized_lem _ _ _ _ c.requires)
     (λ c.
     let st = c.before.before.before in
     let ok = st.requires in

@@ -1,7 +1,7 @@
 -- `single::view_ok` meets its contract, test by test.
 -- Assumes nothing.
 use Rattle.model.proofs.Counted.{test_holds, test_fails}
-use Rattle.single.proofs.Laws.{view-short, view-wide, view-refused, view-ends, view_plain}
+use Rattle.single.proofs.Laws.{view_short, view_wide, view-refused, view_ends, view_plain}
 use Rattle.std.proofs.Common.{rules}
 use Rattle.single.proofs.view_ok.Statement.{statement}
 use Rattle.single.proofs.view_ok.Tie as tie
@@ -10,16 +10,16 @@ pub view_ok_spec : {M : Type 1} → statement M
 view_ok_spec =
     tie.close
     (tie.spec
-    (λ c. view-short _ _ _ c.if-body-at.true)
+    (λ c. view_short _ _ _ c.if-body-at.true)
     (λ c. search rules)
     (λ c. search rules)
     (λ c. search rules)
-    (λ c. view-wide _ _ _ c.if-body-at.false c.if-span-v.true)
+    (λ c. view_wide _ _ _ c.if-body-at.false c.if-span-v.true)
     (λ c. search rules)
     (λ c. search rules)
     (λ c. search rules)
     (λ c κs. search rules)
     (λ c. view-refused _ _ _ c.if-body-at.false c.if-span-v.false (test_fails c.check.ensures c.if-not-check.true))
     (λ c κs. test_holds c.check.ensures c.if-not-check.false)
-    (λ c. view-ends _ _ _ c.if-body-at.false c.if-span-v.false (test_holds c.check.ensures c.if-not-check.false) c.if-v.true c.ends.ensures)
+    (λ c. view_ends _ _ _ c.if-body-at.false c.if-span-v.false (test_holds c.check.ensures c.if-not-check.false) c.if-v.true c.ends.ensures)
     (λ c. view_plain _ _ _ c.if-body-at.false c.if-span-v.false (test_holds c.check.ensures c.if-not-check.false) c.if-v.false))

@@ -16,8 +16,8 @@ use Rattle.word.proofs.+select_in.Tie.{close}
 abbrev μ_select_in : Measures 0 select-in-kinds.ps ℕ
 μ_select_in κs a = a.1.0
 
-abbrev select_in-at : ℕ → In 0 select-in-kinds.ps
-select_in-at t = and 0 select-in-kinds.ps (is 0 select-in-kinds.ps μ_select_in t) select_in_lem.Pre
+abbrev select_in_at : ℕ → In 0 select-in-kinds.ps
+select_in_at t = and 0 select-in-kinds.ps (is 0 select-in-kinds.ps μ_select_in t) select_in_lem.Pre
 
 abbrev select_in-below : ℕ → In 0 select-in-kinds.ps
 select_in-below t = and 0 select-in-kinds.ps (falls 0 select-in-kinds.ps ◌<◌ μ_select_in t) select_in_lem.Pre
@@ -29,7 +29,7 @@ pub +select_in_spec : {M : Type 1} → statement M
   select_in-below t,
   select_in_lem.Post,
 )
-    (select_in-at t)
+    (select_in_at t)
     select_in_lem.Post
     (λ c. last_digit _ _ _ _ (omega arith) c.before.requires.1)
     (λ c κs. (omega arith, c.before.requires.1))

@@ -2,7 +2,7 @@
 -- Assumes nothing.
 use mathlib.Core.Path.{refl}
 use borrow.Author.Rules.{rules}
-use Rattle.model.proofs.Rising.{rising-below}
+use Rattle.model.proofs.Rising.{rising_below}
 use Rattle.word.proofs.Bits.{bits_rising}
 use Rattle.word.proofs.select.Statement.{statement}
 use Rattle.word.proofs.select.Tie as tie
@@ -14,4 +14,4 @@ select_spec =
     (λ c κs. record { level = 6; power = refl; inside = c.requires; fits = search rules })
     (λ c.
     let s = c.before in
-    (c.select_in.ensures, rw c.select_in.ensures (rising-below (bits_rising 64 0 s.args.word) s.args.k s.requires))))
+    (c.select_in.ensures, rw c.select_in.ensures (rising_below (bits_rising 64 0 s.args.word) s.args.k s.requires))))

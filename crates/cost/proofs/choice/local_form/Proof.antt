@@ -7,7 +7,7 @@ use borrow.Author.Tests.{ne_eqb}
 use Rattle.model.specs.Tests.{pick}
 use Rattle.stats.specs.Statistics.{holes_of}
 use Rattle.cost.specs.Forms.{least, local_form, local_offers}
-use Rattle.cost.proofs.Least.{dense-local}
+use Rattle.cost.proofs.Least.{dense_local}
 use Rattle.cost.proofs.choice.local_form.Statement.{statement}
 use Rattle.cost.proofs.choice.local_form.Tie as tie
 
@@ -25,7 +25,7 @@ local_form_spec =
     let k = c.before.before in
     let z = k.before.before.before in
     let p = z.requires in
-    c.dense.ensures ∙ sym (dense-local z.args.s (omega (arith, k.local_span-span.ensures.0)) (omega (arith, p.some, p.few))))
+    c.dense.ensures ∙ sym (dense_local z.args.s (omega (arith, k.local_span-span.ensures.0)) (omega (arith, p.some, p.few))))
     (λ c. search rules)
     (λ c κs. search rules)
     (λ c. search rules)

@@ -3,7 +3,7 @@
 use mathlib.Core.Path.{◌≡◌}
 use native.Mathlib.Omega.{arith}
 use Rattle.cost.specs.Forms.{payload}
-use Rattle.cost.proofs.Bytes.{payload-is, payload-most}
+use Rattle.cost.proofs.Bytes.{payload_is, payload_most}
 use borrow.Author.Rules.{rules}
 use Rattle.cost.proofs.choice.payload.Statement.{statement}
 use Rattle.cost.proofs.choice.payload.Tie as tie
@@ -24,5 +24,5 @@ payload_spec =
     (λ c κs. search rules)
     (λ c κs. search rules)
     (λ c. let given = c.before.before.before.before.before.before.before in
-    let e : c.fewer-2.result ≡ payload given.args.s = cc (payload-is given.args.s) in
-    (e, omega (arith, payload-most given.args.s))))
+    let e : c.fewer-2.result ≡ payload given.args.s = cc (payload_is given.args.s) in
+    (e, omega (arith, payload_most given.args.s))))

@@ -2,7 +2,7 @@
 -- Assumes nothing.
 use Rattle.std.proofs.Common.{refl, rules}
 use Rattle.gather_core.specs.Gather.{one_seed}
-use Rattle.gather_core.proofs.Climbing.{rises-ends}
+use Rattle.gather_core.proofs.Climbing.{rises_ends}
 use Rattle.gather_core.proofs.paging.one_seed.Statement.{statement}
 use Rattle.gather_core.proofs.paging.one_seed.Tie as tie
 
@@ -15,5 +15,5 @@ one_seed_spec =
     (λ c. search rules)
     (λ c. search rules)
     (λ c. search rules)
-    (λ c. rises-ends _ c.before.before.requires.1)
+    (λ c. rises_ends _ c.before.before.requires.1)
     (λ c. refl))

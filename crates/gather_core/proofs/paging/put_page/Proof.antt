@@ -2,7 +2,7 @@
 -- Assumes nothing.
 use Rattle.std.proofs.Common.{◌≡◌, false, sym, ◌∙◌, rules}
 use Rattle.gather_core.specs.Gather.{one_seed}
-use Rattle.gather_core.proofs.Pages.{paged-rows, paged_rows_to}
+use Rattle.gather_core.proofs.Pages.{paged_rows, paged_rows_to}
 use Rattle.gather_core.proofs.paging.put_page.Statement.{statement}
 use Rattle.gather_core.proofs.paging.put_page.Tie as tie
 
@@ -17,11 +17,11 @@ put_page_spec =
     (λ c κs. (c.before.before.before.before.before.requires, sym c.before.before.one_seed.ensures ∙ c.before.if-one_seed.true))
     (λ c κs.
     let s = c.before.before.before.before.before in
-    (s.requires.counted, rw (← paged-rows s.args.g s.args.rows.now (many c.before)) s.requires.in_room))
+    (s.requires.counted, rw (← paged_rows s.args.g s.args.rows.now (many c.before)) s.requires.in_room))
     (λ c. search rules)
     (λ c. search rules)
     (λ c. search rules)
     (λ c.
     let m = many c.before.before.before.before in
     let w = c.before.before.put_rows.ensures in
-    (w.0 ∙ sym (paged-rows _ _ m), w.1 ∙ sym (paged_rows_to _ _ _ m))))
+    (w.0 ∙ sym (paged_rows _ _ m), w.1 ∙ sym (paged_rows_to _ _ _ m))))

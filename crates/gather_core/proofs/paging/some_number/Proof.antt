@@ -6,7 +6,7 @@ use Rattle.model.proofs.Counted.{and_both}
 use Rattle.model.proofs.Tests.{both_right}
 use Rattle.gather_core.specs.Gather.{above, rises, early, first_of, some_number}
 use Rattle.gather_core.proofs.Admitted.{Passed, passed, fitting, first_refuses, second_decides}
-use Rattle.gather_core.proofs.Pages.{paged-few}
+use Rattle.gather_core.proofs.Pages.{paged_few}
 use Rattle.gather_core.proofs.paging.some_number.Statement.{statement}
 use Rattle.gather_core.proofs.paging.some_number.Tie as tie
 
@@ -39,7 +39,7 @@ some_number_spec =
     (λ c.
     let d = c.before.before in
     let s = start d.before in
-    let few = paged-few s.args.g s.args.rows.now s.requires in
+    let few = paged_few s.args.g s.args.rows.now s.requires in
     let room = (go_on d).able.in_room in
     rw (← tested d.before, second_decides _ _ d.if-k-ne0.false) (sym (fitting _ _ (omega arith))))
     (λ c κs. let p = go_on c.before.before in (p.counted, (start c.before.before.before).requires, both_right _ _ p.rises))

@@ -2,7 +2,7 @@
 -- Assumes nothing.
 use Rattle.std.proofs.Common.{◌<◌, length, sym, ap, ◌∙◌, arith, drop-cons, rules}
 use Rattle.gather_core.specs.Gather.{rises}
-use Rattle.gather_core.proofs.Climbing.{rises-none}
+use Rattle.gather_core.proofs.Climbing.{rises_none}
 use Rattle.gather_core.proofs.rising.rises.Statement.{statement}
 use Rattle.gather_core.proofs.rising.rises.Tie as tie
 
@@ -10,7 +10,7 @@ pub rises_spec : {M : Type 1} → statement M
 rises_spec =
     tie.close
     (tie.spec
-    (λ c. sym (rises-none _ c.if-rows-eq0.true))
+    (λ c. sym (rises_none _ c.if-rows-eq0.true))
     (λ c. search rules)
     (λ c κs. search rules)
     (λ c.

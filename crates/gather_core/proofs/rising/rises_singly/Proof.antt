@@ -2,7 +2,7 @@
 -- Assumes nothing.
 use Rattle.std.proofs.Common.{◌≡◌, ◌-◌, ◌≤◌, true, length, sym, refl, arith, rules, le-ltb, lt-ltb}
 use Rattle.model.specs.Tests.{all}
-use Rattle.model.proofs.Tests.{all_more, all-stop}
+use Rattle.model.proofs.Tests.{all_more, all_stop}
 use Rattle.gather_core.specs.Gather.{up_at, rises}
 use Rattle.gather_core.proofs.rising.rises_singly.Statement.{statement}
 use Rattle.gather_core.proofs.rising.rises_singly.Tie as tie
@@ -30,7 +30,7 @@ rises_singly_spec =
     (λ c.
     let k = c.before.before.before in
     let rows = k.before.before.args.rows.now in
-    sym (all-stop (up_at rows) (length rows - 1) k.before.loop-i.i (omega arith) (le-ltb _ _ c.if-rows-i.true)))
+    sym (all_stop (up_at rows) (length rows - 1) k.before.loop-i.i (omega arith) (le-ltb _ _ c.if-rows-i.true)))
     (λ c. search rules)
     (λ c. search rules)
     (λ c.

@@ -3,7 +3,7 @@
 use mathlib.Core.Path.{ap, ◌∙◌}
 use borrow.Author.Rules.{rules}
 use Rattle.stats.specs.Statistics.{stats_of}
-use Rattle.seeds.proofs.Placing.{part-covered, part_positions}
+use Rattle.seeds.proofs.Placing.{part_covered, part_positions}
 use Rattle.seeds.proofs.records.part_stats.Statement.{statement}
 use Rattle.seeds.proofs.records.part_stats.Tie as tie
 
@@ -15,5 +15,5 @@ part_stats_spec =
     (λ c. search rules)
     (λ c. search rules)
     (λ c. search rules)
-    (λ c κs. part-covered _ _ _ _ c.requires)
+    (λ c κs. part_covered _ _ _ _ c.requires)
     (λ c. c.rows_stats.ensures ∙ ap stats_of (part_positions _ _ _ _)))

@@ -4,7 +4,7 @@ use mathlib.Core.Path.{refl}
 use Prim.Native.Nat.{◌-◌}
 use mathlib.Core.List.{[]}
 use borrow.Author.Rules.{rules}
-use Rattle.seeds.proofs.Placing.{begun-inside, window_ends, Placing, placing_start, placing_begun, placing_room, placing_range, placing_next, placing_end}
+use Rattle.seeds.proofs.Placing.{begun_inside, window_ends, Placing, placing_start, placing_begun, placing_room, placing_range, placing_next, placing_end}
 use Rattle.seeds.proofs.records.put_ordinals.Statement.{statement}
 use Rattle.seeds.proofs.records.put_ordinals.Tie as tie
 
@@ -21,7 +21,7 @@ put_ordinals_spec =
     invariant-loop-i
     decreases-loop-i
     (λ c. placing_start _ _ _ _ _ c.requires)
-    (λ c κs. let at = c.before in begun-inside _ _ _ _ (placing_begun _ _ _ _ _ at.requires _ _ _ at.loop-i.invariant c.loop-i-test.true))
+    (λ c κs. let at = c.before in begun_inside _ _ _ _ (placing_begun _ _ _ _ _ at.requires _ _ _ at.loop-i.invariant c.loop-i-test.true))
     (λ c κs.
     let turn = c.before.before in
     let at = turn.before in
