@@ -22,11 +22,8 @@ pub missed : {t u : Bool} → t ≡ u → not t ≡ true → u ≡ false
 missed {t} e f = sym e ∙ not-true t f
 
 -- and as a branch on the negation of a test says them
-pub test_holds : {t u : Bool} → t ≡ u → t ≡ true → u ≡ true
-test_holds e f = sym e ∙ f
-
-pub test_fails : {t u : Bool} → t ≡ u → t ≡ false → u ≡ false
-test_fails e f = sym e ∙ f
+pub test_is : {t u v : Bool} → t ≡ u → t ≡ v → u ≡ v
+test_is e f = sym e ∙ f
 
 -- the code's conjunction
 pub and_both : (a b : Bool) → a && b ≡ both a b

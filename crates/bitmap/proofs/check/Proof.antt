@@ -1,7 +1,7 @@
 -- `bitmap::check` meets its contract: the tests in turn.
 -- Assumes nothing.
 use Rattle.std.proofs.Common.{arith, rules}
-use Rattle.model.proofs.Counted.{counted_none, counted_past, test_holds, test_fails}
+use Rattle.model.proofs.Counted.{counted_none, counted_past, test_is}
 use Rattle.bitmap.proofs.Groups.{refuse_length, refuse_count, refuse_past, accept_rest}
 use Rattle.bitmap.proofs.check.Statement.{statement}
 use Rattle.bitmap.proofs.check.Tie as tie
@@ -19,8 +19,8 @@ check_spec =
     (λ c. refuse_count _ _ _ (counted_none _ _ c.if-count-eq0.true))
     (λ c. refuse_count _ _ _ (counted_past _ _ c.if-span-count.true))
     (λ c κs. search rules)
-    (λ c. refuse_past _ _ _ (test_fails c.before.within_span.ensures c.if-not-within_span.true))
+    (λ c. refuse_past _ _ _ (test_is c.before.within_span.ensures c.if-not-within_span.true))
     (λ c κs. search rules)
     (λ c.
     accept_rest _ _ _ (omega arith) (record { some = omega arith; within = omega arith; most = omega arith })
-    (test_holds c.before.before.within_span.ensures c.before.if-not-within_span.false) c.groups_right.ensures))
+    (test_is c.before.before.within_span.ensures c.before.if-not-within_span.false) c.groups_right.ensures))

@@ -2,7 +2,7 @@
 -- Assumes nothing.
 use mathlib.Core.Path.{◌∙◌}
 use native.Mathlib.Omega.{arith}
-use Rattle.model.proofs.Counted.{test_holds, test_fails}
+use Rattle.model.proofs.Counted.{test_is}
 use Rattle.deletion.specs.Striking.{struck_of}
 use Rattle.deletion.proofs.Planning.{no_block, no_deletions_lem, some_deletions}
 use borrow.Author.Rules.{rules}
@@ -16,10 +16,10 @@ plan_deletions_spec =
     (tie.spec
     (λ c κs. search rules)
     (λ c.
-    let s = no_block _ _ _ _ _ (test_fails c.block_fits.ensures c.if-not-block_fits.true) in
+    let s = no_block _ _ _ _ _ (test_is c.block_fits.ensures c.if-not-block_fits.true) in
     (s.answer, (s.output, s.workspace)))
     (λ c.
-    let s = no_deletions_lem _ _ _ _ _ (test_holds c.block_fits.ensures c.if-not-block_fits.false) (omega arith) in
+    let s = no_deletions_lem _ _ _ _ _ (test_is c.block_fits.ensures c.if-not-block_fits.false) (omega arith) in
     (s.answer, (s.output, s.workspace)))
     (λ c κs. search rules)
     (λ c κs. search rules)
@@ -29,5 +29,5 @@ plan_deletions_spec =
     (λ c.
     let start = c.before.before.before.before.before.before.before.before in
     let plan = c.plan_ordinals.ensures in
-    let s = some_deletions _ _ _ _ _ (test_holds start.block_fits.ensures start.if-not-block_fits.false) (omega arith) start.body_limit.ensures (c.of_planned.ensures ∙ plan.0) plan.1.0 plan.1.1 in
+    let s = some_deletions _ _ _ _ _ (test_is start.block_fits.ensures start.if-not-block_fits.false) (omega arith) start.body_limit.ensures (c.of_planned.ensures ∙ plan.0) plan.1.0 plan.1.1 in
     (s.answer, (s.output, s.workspace))))

@@ -2,7 +2,7 @@
 -- Assumes nothing.
 use mathlib.Core.Path.{sym, ◌∙◌}
 use Rattle.model.proofs.Tests.{pick_true, pick_false}
-use Rattle.model.proofs.Counted.{test_holds, test_fails}
+use Rattle.model.proofs.Counted.{test_is}
 use borrow.Author.Tests.{lt-leb, le-leb}
 use Rattle.rowset.specs.Calls.{filled_of, ranks_answer, ranks_left}
 use Rattle.rowset.proofs.Asking.{refuses, answers}
@@ -17,8 +17,8 @@ ranks_spec =
     tie.close
     (tie.spec
     (λ c κs. search rules)
-    (λ c. (refuses _ _ _ _ (test_fails c.check.ensures c.if-not-check.true), sym (pick_false _ _ (test_fails c.check.ensures c.if-not-check.true))))
-    (λ c. (answers _ _ _ (test_holds c.check.ensures c.if-not-check.false) (sym (pick_false _ _ (lt-leb _ _ (omega arith)))), sym (pick_true _ _ (test_holds c.check.ensures c.if-not-check.false) ∙ pick_false _ _ (lt-leb _ _ (omega arith)))))
-    (λ c κs. (test_holds c.check.ensures c.if-not-check.false, (omega arith)))
+    (λ c. (refuses _ _ _ _ (test_is c.check.ensures c.if-not-check.true), sym (pick_false _ _ (test_is c.check.ensures c.if-not-check.true))))
+    (λ c. (answers _ _ _ (test_is c.check.ensures c.if-not-check.false) (sym (pick_false _ _ (lt-leb _ _ (omega arith)))), sym (pick_true _ _ (test_is c.check.ensures c.if-not-check.false) ∙ pick_false _ _ (lt-leb _ _ (omega arith)))))
+    (λ c κs. (test_is c.check.ensures c.if-not-check.false, (omega arith)))
     (λ c. search rules)
-    (λ c. (answers _ _ _ (test_holds c.check.ensures c.if-not-check.false) (sym (pick_true _ _ (le-leb _ _ (omega arith)))), c.ranks.ensures ∙ sym (pick_true _ _ (test_holds c.check.ensures c.if-not-check.false) ∙ pick_true _ _ (le-leb _ _ (omega arith))))))
+    (λ c. (answers _ _ _ (test_is c.check.ensures c.if-not-check.false) (sym (pick_true _ _ (le-leb _ _ (omega arith)))), c.ranks.ensures ∙ sym (pick_true _ _ (test_is c.check.ensures c.if-not-check.false) ∙ pick_true _ _ (le-leb _ _ (omega arith))))))

@@ -4,7 +4,7 @@ use mathlib.Core.Path.{sym, ◌∙◌, ap}
 use native.Mathlib.Omega.{arith}
 use Rattle.model.specs.Answers.{accepted}
 use Rattle.model.proofs.Tests.{pick_true, pick_false}
-use Rattle.model.proofs.Counted.{test_holds, test_fails}
+use Rattle.model.proofs.Counted.{test_is}
 use borrow.Author.Tests.{eq-eqb, ne_eqb}
 use Rattle.bodies.proofs.Laws.{nine, nine_room}
 use Rattle.segmented.proofs.Named.{directory_of}
@@ -20,9 +20,9 @@ segment_spec =
     tie.close
     (tie.spec
     (λ c κs. search rules)
-    (λ c. refuses _ _ _ _ (test_fails c.check.ensures c.if-not-check.true))
-    (λ c. answers _ _ _ (test_holds c.check.ensures c.if-not-check.false) (ap accepted (sym (pick_false _ _ (ne_eqb _ 9 (λ e. omega (arith, e)))))))
-    (λ c κs. omega (arith, nine_room _ _ _ (test_holds c.check.ensures c.if-not-check.false) (omega arith)))
-    (λ c. answers _ _ _ (test_holds c.check.ensures c.if-not-check.false) (ap accepted (sym (pick_true _ _ (eq-eqb _ 9 (omega arith)) ∙ pick_false _ _ (entry_past _ c.segments.ensures.0 c.if-segments-i.true)))))
-    (λ c κs. omega (arith, (directory_of _ _ (nine _ _ _ (test_holds c.check.ensures c.if-not-check.false) (omega arith))).room, c.segments.ensures.0))
-    (λ c. answers _ _ _ (test_holds c.check.ensures c.if-not-check.false) (ap accepted (ap values_of c.entry.ensures ∙ sym (pick_true _ _ (eq-eqb _ 9 (omega arith)) ∙ pick_true _ _ (entry_in _ c.segments.ensures.0 c.if-segments-i.false))))))
+    (λ c. refuses _ _ _ _ (test_is c.check.ensures c.if-not-check.true))
+    (λ c. answers _ _ _ (test_is c.check.ensures c.if-not-check.false) (ap accepted (sym (pick_false _ _ (ne_eqb _ 9 (λ e. omega (arith, e)))))))
+    (λ c κs. omega (arith, nine_room _ _ _ (test_is c.check.ensures c.if-not-check.false) (omega arith)))
+    (λ c. answers _ _ _ (test_is c.check.ensures c.if-not-check.false) (ap accepted (sym (pick_true _ _ (eq-eqb _ 9 (omega arith)) ∙ pick_false _ _ (entry_past _ c.segments.ensures.0 c.if-segments-i.true)))))
+    (λ c κs. omega (arith, (directory_of _ _ (nine _ _ _ (test_is c.check.ensures c.if-not-check.false) (omega arith))).room, c.segments.ensures.0))
+    (λ c. answers _ _ _ (test_is c.check.ensures c.if-not-check.false) (ap accepted (ap values_of c.entry.ensures ∙ sym (pick_true _ _ (eq-eqb _ 9 (omega arith)) ∙ pick_true _ _ (entry_in _ c.segments.ensures.0 c.if-segments-i.false))))))

@@ -1,7 +1,7 @@
 -- `rowset::select` meets its contract.
 -- Assumes nothing.
 use native.Mathlib.Omega.{arith}
-use Rattle.model.proofs.Counted.{test_holds, test_fails}
+use Rattle.model.proofs.Counted.{test_is}
 use Rattle.rowset.specs.Calls.{selected_of, select_answer}
 use Rattle.rowset.proofs.Asking.{refuses, answers, nothing_selected, position_selected}
 use borrow.Author.Rules.{rules}
@@ -14,8 +14,8 @@ select_spec =
     tie.close
     (tie.spec
     (λ c κs. search rules)
-    (λ c. refuses _ _ _ _ (test_fails c.check.ensures c.if-not-check.true))
-    (λ c κs. test_holds c.check.ensures c.if-not-check.false)
-    (λ c. answers _ _ _ (test_holds c.check.ensures c.if-not-check.false) (nothing_selected _ _ c.count.ensures c.if-count-ordinal.true))
-    (λ c κs. (test_holds c.check.ensures c.if-not-check.false, omega (arith, c.count.ensures)))
-    (λ c. answers _ _ _ (test_holds c.check.ensures c.if-not-check.false) (position_selected _ _ c.count.ensures c.if-count-ordinal.false c.select.ensures)))
+    (λ c. refuses _ _ _ _ (test_is c.check.ensures c.if-not-check.true))
+    (λ c κs. test_is c.check.ensures c.if-not-check.false)
+    (λ c. answers _ _ _ (test_is c.check.ensures c.if-not-check.false) (nothing_selected _ _ c.count.ensures c.if-count-ordinal.true))
+    (λ c κs. (test_is c.check.ensures c.if-not-check.false, omega (arith, c.count.ensures)))
+    (λ c. answers _ _ _ (test_is c.check.ensures c.if-not-check.false) (position_selected _ _ c.count.ensures c.if-count-ordinal.false c.select.ensures)))

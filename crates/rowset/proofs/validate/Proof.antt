@@ -3,7 +3,7 @@
 use mathlib.Core.Path.{sym}
 use Rattle.rowset.specs.Calls.{checked_of, validate_of, asked}
 use Rattle.model.proofs.Tests.{pick_true, pick_false}
-use Rattle.model.proofs.Counted.{test_holds, test_fails}
+use Rattle.model.proofs.Counted.{test_is}
 use borrow.Author.Rules.{rules}
 use Rattle.rowset.proofs.validate.Statement.{statement}
 use Rattle.rowset.proofs.validate.Tie as tie
@@ -14,6 +14,6 @@ validate_spec =
     tie.close
     (tie.spec
     (λ c κs. search rules)
-    (λ c. sym (pick_false _ _ (test_fails c.check.ensures c.if-not-check.true)))
-    (λ c κs. test_holds c.check.ensures c.if-not-check.false)
-    (λ c. rw c.count.ensures (sym (pick_true _ _ (test_holds c.check.ensures c.if-not-check.false)))))
+    (λ c. sym (pick_false _ _ (test_is c.check.ensures c.if-not-check.true)))
+    (λ c κs. test_is c.check.ensures c.if-not-check.false)
+    (λ c. rw c.count.ensures (sym (pick_true _ _ (test_is c.check.ensures c.if-not-check.false)))))

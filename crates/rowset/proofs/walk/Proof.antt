@@ -3,7 +3,7 @@
 use mathlib.Core.Path.{sym, ◌∙◌, ap}
 use Rattle.model.specs.Answers.{accepted}
 use Rattle.model.proofs.Tests.{pick_true, pick_false}
-use Rattle.model.proofs.Counted.{test_holds, test_fails}
+use Rattle.model.proofs.Counted.{test_is}
 use mathlib.Core.List.{◌∷◌, []}
 use Prim.Native.Nat.{ℕ}
 use Rattle.rowset.specs.Calls.{filled_of, walk_answer, walk_left}
@@ -18,7 +18,7 @@ walk_spec =
     tie.close
     (tie.spec
     (λ c κs. search rules)
-    (λ c. (refuses _ _ _ _ (test_fails c.check.ensures c.if-not-check.true), sym (pick_false _ _ (test_fails c.check.ensures c.if-not-check.true))))
-    (λ c κs. test_holds c.check.ensures c.if-not-check.false)
+    (λ c. (refuses _ _ _ _ (test_is c.check.ensures c.if-not-check.true), sym (pick_false _ _ (test_is c.check.ensures c.if-not-check.true))))
+    (λ c κs. test_is c.check.ensures c.if-not-check.false)
     (λ c. search rules)
-    (λ c. (answers _ _ _ (test_holds c.check.ensures c.if-not-check.false) (ap (λ (n : ℕ). accepted (n ∷ [])) c.walk.ensures.number), c.walk.ensures.written ∙ sym (pick_true _ _ (test_holds c.check.ensures c.if-not-check.false)))))
+    (λ c. (answers _ _ _ (test_is c.check.ensures c.if-not-check.false) (ap (λ (n : ℕ). accepted (n ∷ [])) c.walk.ensures.number), c.walk.ensures.written ∙ sym (pick_true _ _ (test_is c.check.ensures c.if-not-check.false)))))

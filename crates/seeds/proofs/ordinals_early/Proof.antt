@@ -6,7 +6,7 @@ use Prim.Native.Nat.{ℕ}
 use native.Mathlib.Omega.{arith}
 use borrow.Author.Rules.{rules}
 use lib.ListN.{length}
-use Rattle.model.proofs.Counted.{test_holds, test_fails}
+use Rattle.model.proofs.Counted.{test_is}
 use Rattle.gather_core.specs.Seeds.{windows}
 use Rattle.planning.specs.Refusals.{count_fits, ends_of}
 use Rattle.seeds.proofs.Ends.{none_fit, none_ends}
@@ -29,23 +29,23 @@ ordinals_early_spec =
     (λ c κs. search rules)
     (λ c.
     let e1 = c.before.before.before in
-    fails_2 _ _ _ _ _ _ (ordinals_some e1.args.count e1.if-count-eq0.false (omega arith)) (test_fails c.count_fits.ensures c.if-not-count_fits.true) c.refused-then-not-count_fits.ensures)
-    (λ c κs. (count_some c.args.ordinals.now (test_holds c.count_fits.ensures c.if-not-count_fits.false)).0)
+    fails_2 _ _ _ _ _ _ (ordinals_some e1.args.count e1.if-count-eq0.false (omega arith)) (test_is c.count_fits.ensures c.if-not-count_fits.true) c.refused-then-not-count_fits.ensures)
+    (λ c κs. (count_some c.args.ordinals.now (test_is c.count_fits.ensures c.if-not-count_fits.false)).0)
     (λ c κs. search rules)
     (λ c.
     let e2 = c.before.before.before in
     let e1 = e2.before.before in
-    fails_3 _ _ _ _ _ _ (ordinals_some e1.args.count e1.if-count-eq0.false (omega arith)) (test_holds e2.count_fits.ensures e2.if-not-count_fits.false) (test_fails c.ordinals_fit.ensures c.if-not-ordinals_fit.true) c.refused-then-not-ordinals_fit.ensures)
+    fails_3 _ _ _ _ _ _ (ordinals_some e1.args.count e1.if-count-eq0.false (omega arith)) (test_is e2.count_fits.ensures e2.if-not-count_fits.false) (test_is c.ordinals_fit.ensures c.if-not-ordinals_fit.true) c.refused-then-not-ordinals_fit.ensures)
     (λ c κs.
     let e2 = c.before.before in
-    (count_some e2.args.ordinals.now (test_holds e2.count_fits.ensures e2.if-not-count_fits.false)).0)
+    (count_some e2.args.ordinals.now (test_is e2.count_fits.ensures e2.if-not-count_fits.false)).0)
     (λ c κs.
     let e2 = c.before.before.before in
     let rows = e2.args.ordinals.now in
-    rw (counted rows _ c.count_windows16.ensures) (seeds_few rows [] (test_holds e2.count_fits.ensures e2.if-not-count_fits.false) (none_fit rows [] refl)))
+    rw (counted rows _ c.count_windows16.ensures) (seeds_few rows [] (test_is e2.count_fits.ensures e2.if-not-count_fits.false) (none_fit rows [] refl)))
     (λ c.
     let e3 = c.before.before in
     let e2 = e3.before.before in
     let e1 = e2.before.before in
     let rows = e1.args.ordinals.now in
-    last_judges _ _ _ _ _ _ (ordinals_some e1.args.count e1.if-count-eq0.false (omega arith)) (test_holds e2.count_fits.ensures e2.if-not-count_fits.false) (test_holds e3.ordinals_fit.ensures e3.if-not-ordinals_fit.false) (none_fit rows [] refl) _ (counted rows _ c.count_windows16.ensures) c.last_test.ensures.0 c.last_test.ensures.1))
+    last_judges _ _ _ _ _ _ (ordinals_some e1.args.count e1.if-count-eq0.false (omega arith)) (test_is e2.count_fits.ensures e2.if-not-count_fits.false) (test_is e3.ordinals_fit.ensures e3.if-not-ordinals_fit.false) (none_fit rows [] refl) _ (counted rows _ c.count_windows16.ensures) c.last_test.ensures.0 c.last_test.ensures.1))

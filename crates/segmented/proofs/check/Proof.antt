@@ -1,6 +1,6 @@
 -- `segmented::check` meets its contract.
 -- Assumes nothing.
-use Rattle.model.proofs.Counted.{test_holds, test_fails}
+use Rattle.model.proofs.Counted.{test_is}
 use Rattle.segmented.proofs.Laws.{directory_fails, parts_decide}
 use Rattle.std.proofs.Common.{rules}
 use Rattle.segmented.proofs.check.Statement.{statement}
@@ -11,6 +11,6 @@ check_spec =
     tie.close
     (tie.spec
     (λ c κs. search rules)
-    (λ c. directory_fails _ _ (test_fails c.check.ensures c.if-not-check.true))
-    (λ c κs. test_holds c.check.ensures c.if-not-check.false)
-    (λ c. parts_decide _ _ (test_holds c.check.ensures c.if-not-check.false) c.parts_ok.ensures))
+    (λ c. directory_fails _ _ (test_is c.check.ensures c.if-not-check.true))
+    (λ c κs. test_is c.check.ensures c.if-not-check.false)
+    (λ c. parts_decide _ _ (test_is c.check.ensures c.if-not-check.false) c.parts_ok.ensures))

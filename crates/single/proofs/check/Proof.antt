@@ -1,7 +1,7 @@
 -- `single::check` meets its contract.
 -- Assumes nothing.
 use Rattle.std.proofs.Common.{arith, rules}
-use Rattle.model.proofs.Counted.{test_holds, test_fails}
+use Rattle.model.proofs.Counted.{test_is}
 use Rattle.single.proofs.Laws.{single_short, single_fields, single_view}
 use Rattle.single.proofs.check.Statement.{statement}
 use Rattle.single.proofs.check.Tie as tie
@@ -13,7 +13,7 @@ check_spec =
     (λ c κs. search rules)
     (λ c. single_short _ _ _ (omega arith))
     (λ c κs. search rules)
-    (λ c. single_fields _ _ _ (test_fails c.fields_ok.ensures c.if-not-fields_ok.true))
+    (λ c. single_fields _ _ _ (test_is c.fields_ok.ensures c.if-not-fields_ok.true))
     (λ c κs. search rules)
     (λ c κs. search rules)
-    (λ c. single_view _ _ _ (test_holds c.fields_ok.ensures c.if-not-fields_ok.false) c.parse.ensures c.view_ok.ensures))
+    (λ c. single_view _ _ _ (test_is c.fields_ok.ensures c.if-not-fields_ok.false) c.parse.ensures c.view_ok.ensures))

@@ -1,6 +1,6 @@
 -- `single::view_ok` meets its contract, test by test.
 -- Assumes nothing.
-use Rattle.model.proofs.Counted.{test_holds, test_fails}
+use Rattle.model.proofs.Counted.{test_is}
 use Rattle.single.proofs.Laws.{view_short, view_wide, view-refused, view_ends, view_plain}
 use Rattle.std.proofs.Common.{rules}
 use Rattle.single.proofs.view_ok.Statement.{statement}
@@ -19,7 +19,7 @@ view_ok_spec =
     (λ c. search rules)
     (λ c. search rules)
     (λ c κs. search rules)
-    (λ c. view-refused _ _ _ c.if-body-at.false c.if-span-v.false (test_fails c.check.ensures c.if-not-check.true))
-    (λ c κs. test_holds c.check.ensures c.if-not-check.false)
-    (λ c. view_ends _ _ _ c.if-body-at.false c.if-span-v.false (test_holds c.check.ensures c.if-not-check.false) c.if-v.true c.ends.ensures)
-    (λ c. view_plain _ _ _ c.if-body-at.false c.if-span-v.false (test_holds c.check.ensures c.if-not-check.false) c.if-v.false))
+    (λ c. view-refused _ _ _ c.if-body-at.false c.if-span-v.false (test_is c.check.ensures c.if-not-check.true))
+    (λ c κs. test_is c.check.ensures c.if-not-check.false)
+    (λ c. view_ends _ _ _ c.if-body-at.false c.if-span-v.false (test_is c.check.ensures c.if-not-check.false) c.if-v.true c.ends.ensures)
+    (λ c. view_plain _ _ _ c.if-body-at.false c.if-span-v.false (test_is c.check.ensures c.if-not-check.false) c.if-v.false))

@@ -3,7 +3,7 @@
 use Prim.Native.Nat.{◌-◌}
 use borrow.Author.Rules.{rules}
 use lib.ListN.{length}
-use Rattle.model.proofs.Counted.{test_holds, test_fails}
+use Rattle.model.proofs.Counted.{test_is}
 use Rattle.stats.proofs.RunByRun.{Running, running_start, running_next, running_stop, running_end}
 use Rattle.stats.proofs.rows.run_end16.Statement.{statement}
 use Rattle.stats.proofs.rows.run_end16.Tie as tie
@@ -30,10 +30,10 @@ run_end16_spec =
     (λ c κs. search rules)
     (λ c.
     let k = c.before.before.before.before in
-    running_stop _ _ _ k.before.loop-j.invariant k.loop-j-test.true (test_fails c.before.follows16.ensures c.if-not-follows16.true))
+    running_stop _ _ _ k.before.loop-j.invariant k.loop-j-test.true (test_is c.before.follows16.ensures c.if-not-follows16.true))
     (λ c. search rules)
     (λ c. search rules)
     (λ c.
     let k = c.before.before.before.before in
-    running_next _ _ _ k.before.loop-j.invariant k.loop-j-test.true (test_holds c.before.follows16.ensures c.if-not-follows16.false))
+    running_next _ _ _ k.before.loop-j.invariant k.loop-j-test.true (test_is c.before.follows16.ensures c.if-not-follows16.false))
     (λ c. running_end _ _ _ c.before.loop-j.invariant c.loop-j-test.false))
