@@ -1,11 +1,11 @@
 -- The answers of a check: a test that failed, or all that passed and the one that is left. What an accepted count is.
 -- Assumes nothing.
 use mathlib.Core.Path.{◌≡◌, refl, sym, ◌∙◌}
-use mathlib.Core.Bool.{Bool, true, false, not, ◌&&◌, ◌||◌}
+use mathlib.Core.Bool.{Bool, true, false, not, ◌&&◌}
 use Prim.Native.Nat.{ℕ, ◌+◌, ◌<◌, ◌≤◌}
 use native.Mathlib.Omega.{arith}
 use borrow.Author.Tests.{le-leb, lt-leb, leb-true, not-false, not-true}
-use Rattle.model.specs.Tests.{both, pick, all}
+use Rattle.model.specs.Tests.{both, all}
 use Rattle.model.proofs.Tests.{both_true, both_left, both_right, both_first, both_second, all_step}
 use Rattle.model.specs.Lists.{counted}
 
@@ -30,12 +30,6 @@ pub and_both : (a b : Bool) → a && b ≡ both a b
 unfolding both
 and_both true b = refl
 and_both false b = refl
-
--- and its choice
-pub or_pick : (a b : Bool) → (a || b) ≡ pick a true b
-unfolding pick
-or_pick true b = refl
-or_pick false b = refl
 
 -- one turn of a loop that keeps a flag
 pub flag_step : (t : ℕ → Bool) (i : ℕ) {ok u : Bool} → ok ≡ all t i → u ≡ t i → (ok && u) ≡ all t (i + 1)
