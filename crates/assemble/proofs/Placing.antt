@@ -1,12 +1,13 @@
 -- The segmented body, segment after segment: what each asks, what it leaves, and when all are written.
 -- Assumes nothing.
 use mathlib.Core.Path.{◌≡◌, refl, sym, ap, ap₂, ◌∙◌}
-use mathlib.Core.List.{List, [], ◌++◌}
+use mathlib.Core.List.{List, [], ◌++◌, map}
 use Prim.Native.Nat.{ℕ, suc, ◌+◌, ◌-◌, ◌<◌, ◌≤◌}
 use native.Mathlib.Numerals.{add-one}
 use native.Mathlib.Omega.{arith}
 use lib.ListN.{length, get_or, take, drop, length-append, length-drop}
 use lib.Seq.{drop-drop, get_or-drop, take_at, drop_at}
+use Rattle.std.proofs.lemmas.List.{take-map, drop-map}
 use Rattle.fields.specs.Le.{digits}
 use Rattle.model.specs.Tests.{flat, total}
 use Rattle.model.proofs.Tests.{flat_length_step}
@@ -107,6 +108,10 @@ module _ (start : ℕ) (rows : List ℕ) (k : Covered start rows) where
       }
 
 -- ---- the walk
+
+-- the numbers of a part of the rows
+pub part_numbers : {A : Type 0} (f : A → ℕ) (size a : ℕ) (rows : List A) → map f (take size (drop a rows)) ≡ take size (drop a (map f rows))
+part_numbers f size a rows = rw (drop-map f a rows, take-map f size (drop a rows))
 
 -- i segments of a rows stand in out, and the records lead on from x through the rest
 pub record Placing (n : ℕ) (t : List ℕ) (start : ℕ) (rows : List ℕ) (m : ℕ) (before : List ℕ) (x i a at : ℕ) (out : List ℕ) : Type 0 where

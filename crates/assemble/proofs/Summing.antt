@@ -3,7 +3,7 @@
 use mathlib.Core.Path.{◌≡◌, sym, ap, ◌∙◌}
 use mathlib.Core.Logic.{⊎_elim}
 use mathlib.Core.List.{List, ◌++◌, append_assoc, append-nil}
-use Prim.Native.Nat.{ℕ, ◌+◌, ◌*◌, ◌<◌, ◌≤◌}
+use Prim.Native.Nat.{ℕ, ◌+◌, ◌*◌, ◌<◌, ◌≤◌, max}
 use native.Mathlib.Nat.{le_trans}
 use native.Mathlib.Omega.{arith}
 use lib.ListN.{length, length-append}
@@ -31,13 +31,17 @@ use Rattle.assemble.proofs.Records.{same_each, same_rows, Ahead, ahead, behind, 
 
 -- ---- the larger of two
 
-pub larger_right : {a b : ℕ} → a ≤ b → larger a b ≡ b
+larger_right : {a b : ℕ} → a ≤ b → larger a b ≡ b
 unfolding larger
 larger_right {a} {b} h = pick_true b a (le-leb a b h)
 
-pub larger_left : {a b : ℕ} → b < a → larger a b ≡ a
+larger_left : {a b : ℕ} → b < a → larger a b ≡ a
 unfolding larger
 larger_left {a} {b} h = pick_false b a (lt-leb a b h)
+
+-- as std has it
+pub larger_max : (a b : ℕ) → max a b ≡ larger a b
+larger_max a b = ⊎_elim (λ (q : b < a). rw (larger_left q) (omega arith)) (λ (q : a ≤ b). rw (larger_right q) (omega arith)) (order b a)
 
 larger_zero : (a : ℕ) → larger a 0 ≡ a
 larger_zero a = ⊎_elim (λ l. larger_left l) (λ l. larger_right l ∙ omega arith) (order 0 a)

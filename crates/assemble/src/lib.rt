@@ -2,11 +2,10 @@
 
 #![tactic(auto)]
 
-ghost use Rattle.std.specs.Prelude.{◌≡◌, ◌+◌, ◌*◌, ◌<◌, ◌≤◌, ◌++◌, length};
+ghost use Rattle.std.specs.Prelude.{◌≡◌, ◌+◌, ◌*◌, ◌<◌, ◌≤◌, ◌++◌, length, map};
 ghost use Rattle.fields.specs.Le.{digits};
 ghost use Rattle.stats.specs.Statistics.{Sound};
 ghost use Rattle.cost.specs.Forms.{local_form};
-ghost use Rattle.planning.specs.Bodies.{larger};
 ghost use Rattle.directory.specs.Directory.{directory_size};
 ghost use Rattle.emit.specs.Written.{Written};
 ghost use Rattle.encode.specs.Segments.{Placed};
@@ -14,6 +13,7 @@ ghost use Rattle.assemble.specs.Emission.{payload_by, entry_by, Small, Piece, Em
 ghost use Rattle.assemble.specs.Sums.{one, also, finished, Adds, Bounded, Known, Summed};
 
 use directory::Segment;
+use model::{Row, row_at};
 
 // ---- what the segments cost together
 
@@ -35,12 +35,7 @@ pub struct Summary {
     pub stats: stats::Stats,
 }
 
-fn larger(a: u32, b: u32) -> u32
-    ensures { result ≡ larger a b }
-{
-    if a <= b { b } else { a }
-}
-
+#[tactic(auto, unfolding(crate::specs::Sums::one))]
 fn one(s: stats::Stats) -> Tally
     requires { Sound s }
     ensures { result ≡ one s }
@@ -64,8 +59,8 @@ fn also(t: Tally, s: stats::Stats) -> Tally
     Tally {
         segments: t.segments + 1,
         bytes: t.bytes + f.bytes,
-        depth: larger(t.depth, f.depth),
-        words: larger(t.words, f.words),
+        depth: t.depth.max(f.depth),
+        words: t.words.max(f.words),
         stats: stats::join(t.stats, s),
     }
 }
@@ -75,7 +70,6 @@ fn finish(t: Tally) -> Summary
     requires { Bounded t }
     ensures { result ≡ finished t }
 {
-    let stats = t.stats;
     let form = cost::Form {
         tag: 9,
         trimmed: false,
@@ -85,8 +79,8 @@ fn finish(t: Tally) -> Summary
     };
     Summary {
         segments: t.segments,
-        form: form,
-        stats: stats,
+        form,
+        stats: t.stats,
     }
 }
 
@@ -106,6 +100,7 @@ pub fn summarize(w: &[u32], n: usize) -> Summary
 
 // ---- the bytes of the segmented body
 
+#[tactic(auto, unfolding(crate::specs::Emission::entry_by))]
 fn entry(s: stats::Stats, tag: u8, ordinal: usize, offset: usize, size: usize) -> Segment
     requires { Small s ordinal offset size }
     ensures { result ≡ entry_by s tag ordinal offset size }
@@ -117,7 +112,7 @@ fn entry(s: stats::Stats, tag: u8, ordinal: usize, offset: usize, size: usize) -
         ordinal: ordinal as u16,
         offset: offset as u16,
         length: size as u16,
-        tag: tag,
+        tag,
     }
 }
 
@@ -140,34 +135,34 @@ fn head(out: &mut [u8], count: u16, segments: u16) -> usize
 }
 
 // Segment i of these rows: its payload from `at` on, and its entry.
-fn place_rows(
+fn place_rows<R: Row>(
     out: &mut [u8],
     at: usize,
     i: usize,
-    rows: &[u64],
+    rows: &[R],
     s: stats::Stats,
     ordinal: usize,
 ) -> usize
-    requires { Piece s rows.now at i ordinal (length out.old) }
-    ensures { Placed (directory_size i) at (entry_by s (local_form s).tag ordinal at (length (payload_by s rows.now))) (payload_by s rows.now) out.old out.new result }
+    requires { Piece s (map R.number rows.now) at i ordinal (length out.old) }
+    ensures { Placed (directory_size i) at (entry_by s (local_form s).tag ordinal at (length (payload_by s (map R.number rows.now)))) (payload_by s (map R.number rows.now)) out.old out.new result }
 {
     let f = cost::local_form(s);
-    let r = encode::local_rows(out, at, rows, rows[0], f.tag, s.last - s.first + 1);
+    let r = encode::local_rows(out, at, rows, row_at(rows, 0), f.tag, s.last - s.first + 1);
     encode::put_entry(out, directory_size(i), entry(s, f.tag, ordinal, at, r - at));
     r
 }
 
 // The body of the rows, whose segments the records hold. The entries come first, so payloads go behind the room for them.
-pub fn segmented_rows(
+pub fn segmented_rows<R: Row>(
     out: &mut [u8],
-    rows: &[u64],
+    rows: &[R],
     start: u64,
     w: &[u32],
     n: usize,
     segments: usize,
 ) -> usize
-    requires { Emittable n w.now start rows.now segments (length out.old) }
-    ensures { Emitted n w.now start rows.now out.old out.new result }
+    requires { Emittable n w.now start (map R.number rows.now) segments (length out.old) }
+    ensures { Emitted n w.now start (map R.number rows.now) out.old out.new result }
 {
     let mut x = 0;
     let mut i = 0;
@@ -186,9 +181,9 @@ pub fn segmented_rows(
 }
 
 // The body that a form asks for: the segmented one, or a whole one. The summary is at hand from the choice.
-pub fn body_rows(
+pub fn body_rows<R: Row>(
     out: &mut [u8],
-    rows: &[u64],
+    rows: &[R],
     start: u64,
     span: u32,
     f: cost::Form,
@@ -196,8 +191,8 @@ pub fn body_rows(
     w: &[u32],
     n: usize,
 ) -> usize
-    requires { Writable n w.now start rows.now span f sum (length out.old) }
-    ensures { Laid n w.now start rows.now span f out.old out.new result }
+    requires { Writable n w.now start (map R.number rows.now) span f sum (length out.old) }
+    ensures { Laid n w.now start (map R.number rows.now) span f out.old out.new result }
 {
     if f.tag == 9 {
         return segmented_rows(out, rows, start, w, n, sum.segments);
@@ -207,71 +202,4 @@ pub fn body_rows(
     }
     let all = sum.stats;
     encode::plain_rows(out, rows, start, f.tag, span, all.runs as u16)
-}
-
-// ---- the same of u16 ordinals, which are their own positions
-
-fn place_ordinals(
-    out: &mut [u8],
-    at: usize,
-    i: usize,
-    ordinals: &[u16],
-    s: stats::Stats,
-    ordinal: usize,
-) -> usize
-    requires { Piece s ordinals.now at i ordinal (length out.old) }
-    ensures { Placed (directory_size i) at (entry_by s (local_form s).tag ordinal at (length (payload_by s ordinals.now))) (payload_by s ordinals.now) out.old out.new result }
-{
-    let f = cost::local_form(s);
-    let r = encode::local_ordinals(out, at, ordinals, ordinals[0], f.tag, s.last - s.first + 1);
-    encode::put_entry(out, directory_size(i), entry(s, f.tag, ordinal, at, r - at));
-    r
-}
-
-pub fn segmented_ordinals(
-    out: &mut [u8],
-    ordinals: &[u16],
-    w: &[u32],
-    n: usize,
-    segments: usize,
-) -> usize
-    requires { Emittable n w.now 0 ordinals.now segments (length out.old) }
-    ensures { Emitted n w.now 0 ordinals.now out.old out.new result }
-{
-    let mut x = 0;
-    let mut i = 0;
-    let mut a = 0;
-    let mut at = directory_size(segments);
-    while x < n {
-        let s = links::segment(w, x);
-        let b = a + s.count as usize;
-        at = place_ordinals(out, at, i, &ordinals[a..b], s, a);
-        a = b;
-        i += 1;
-        x = links::next(w, x);
-    }
-    head(out, a as u16, segments as u16);
-    at
-}
-
-pub fn body_ordinals(
-    out: &mut [u8],
-    ordinals: &[u16],
-    span: u32,
-    f: cost::Form,
-    sum: Summary,
-    w: &[u32],
-    n: usize,
-) -> usize
-    requires { Writable n w.now 0 ordinals.now span f sum (length out.old) }
-    ensures { Laid n w.now 0 ordinals.now span f out.old out.new result }
-{
-    if f.tag == 9 {
-        return segmented_ordinals(out, ordinals, w, n, sum.segments);
-    }
-    if f.trimmed {
-        return encode::trimmed_ordinals(out, ordinals, f.tag);
-    }
-    let all = sum.stats;
-    encode::plain_ordinals(out, ordinals, f.tag, span, all.runs as u16)
 }

@@ -1,11 +1,10 @@
 -- The check of a bitmap: groups counted one by one, bits past the span, and what acceptance gives.
 -- Assumes nothing.
-use Rattle.std.proofs.Common.{◌≡◌, ℕ, ◌+◌, ◌-◌, ◌*◌, ◌/◌, ◌%◌, ◌^◌, ◌<◌, ◌≤◌, min, Bool, true, false, ◌&&◌, eqb, ltb, List, length, sym, refl, ◌∙◌, subst, mod-eq_of_lt, mul_comm, zero-add, arith, shr-shr, shr_lt, ltb-true, lt-ltb, eq-eqb, ne_eqb, eqb-true}
+use Rattle.std.proofs.Common.{◌≡◌, ℕ, ◌+◌, ◌-◌, ◌*◌, ◌/◌, ◌%◌, ◌^◌, ◌<◌, ◌≤◌, min, Bool, true, ◌&&◌, eqb, ltb, List, length, sym, refl, ◌∙◌, subst, mod-eq_of_lt, mul_comm, zero-add, arith, shr-shr, shr_lt, ltb-true, lt-ltb, eq-eqb, eqb-true}
 use Rattle.fields.specs.Le.{Bytes, le}
 use Rattle.model.specs.Tests.{both, all}
-use Rattle.model.specs.Lists.{counted}
 use Rattle.model.proofs.Counted.{and_both, both_pass, Count, counted_right, counted_count}
-use Rattle.model.proofs.Tests.{all_step, all_at, all_from, both_left, both_right, both_true, both_first, both_second}
+use Rattle.model.proofs.Tests.{all_step, all_at, all_from, both_left, both_right, both_true}
 use Rattle.search.specs.Search.{entry}
 use Rattle.word.specs.Bits.{bits_from}
 use Rattle.word.proofs.Numbers.{pow_test}
@@ -66,21 +65,9 @@ module _ (xs : List ℕ) (bytes : Bytes xs) (s : ℕ) where
       let e : 64 * (words_of s - 1) + s % 64 ≡ s = omega arith in
       rw (← last_word (omega arith), shr-shr (number xs s) (64 * (words_of s - 1)) (s % 64), e) (pow_test (number xs s) s)
 
--- ---- the tests in turn
+-- ---- the answer of the check where the other tests pass
 
 module _ (xs : List ℕ) (s n : ℕ) where
-  pub refuse_length : (length xs ≡ bitmap_length s → ⊥) → false ≡ bitmap_accepts xs s n
-  unfolding bitmap_accepts
-  refuse_length h = sym (both_first _ _ (ne_eqb _ _ h))
-
-  pub refuse_count : counted s n ≡ false → false ≡ bitmap_accepts xs s n
-  unfolding bitmap_accepts
-  refuse_count h = sym (both_second _ _ (both_first _ _ h))
-
-  pub refuse_past : ltb (number xs s) (2 ^ s) ≡ false → false ≡ bitmap_accepts xs s n
-  unfolding bitmap_accepts
-  refuse_past h = sym (both_second _ _ (both_second _ _ (both_first _ _ h)))
-
   pub accept_rest : {r : Bool} → length xs ≡ bitmap_length s → Count s n → ltb (number xs s) (2 ^ s) ≡ true
       → r ≡ both (all (exact xs s) (groups_of s)) (eqb (length (bitmap_names xs s)) n) → r ≡ bitmap_accepts xs s n
   unfolding bitmap_accepts

@@ -8,7 +8,7 @@ use Rattle.search.specs.Search.{up_to}
 use Rattle.search.proofs.Laws.{find_within}
 use Rattle.word.specs.Bits.{bits_from, bits_of}
 use Rattle.bitmap.specs.Body.{words_of, groups_of, number, word_of, stated, before}
-use Rattle.bitmap.specs.Reading.{from, group_rows, group_for, in_group, bitmap_rest, Spotted}
+use Rattle.bitmap.specs.Reading.{from, group_rows, group_for, in_group, bitmap_rest, Standing}
 use Rattle.bitmap.proofs.Words.{between, before_mono, before_word, before_past, before_group, from_cut}
 use Rattle.bitmap.proofs.Groups.{stated_at}
 
@@ -45,16 +45,13 @@ module _ (xs : List ℕ) (s k : ℕ) where
       record { group = eg; stop = ee; begun = omega arith; inside = omega (arith, group_in h); sum = rw (e, q) }
 
   module _ (bytes : Bytes xs) where
-    pub spotted_empty : s ≡ 0 → Spotted xs s k (record { index = 0; left = 0 })
+    pub spotted_empty : s ≡ 0 → bitmap_rest xs s k ≡ []
     spotted_empty z =
         let g = group_for xs s k in
-        record {
-          found = λ h. absurd (omega arith);
-          none = λ h. rest_none (omega (arith, group_rows_lem g, before_past xs bytes s (256 * g) (omega arith), before_past xs bytes s (256 * (g + 1)) (omega arith)));
-        }
+        rest_none (omega (arith, group_rows_lem g, before_past xs bytes s (256 * g) (omega arith), before_past xs bytes s (256 * (g + 1)) (omega arith)))
 
     module _ {g end left i : ℕ} (l : Locating g end left i) where
-      pub spotted_found : (n : ℕ) → i < end → n ≡ length (bits_of (word_of xs s i)) → left < n → Spotted xs s k (record { index = i; left = left })
+      pub spotted_found : (n : ℕ) → i < end → n ≡ length (bits_of (word_of xs s i)) → left < n → Standing xs s k (record { index = i; left = left })
       spotted_found n h en less =
           let G = group_for xs s k in
           let sum : before xs s (64 * i) + left ≡ before xs s (256 * G) + in_group xs s k = rw l.group at l.sum in
@@ -65,8 +62,9 @@ module _ (xs : List ℕ) (s k : ℕ) where
           let first = bits_from (64 * i - 256 * G) (256 * G) (number xs s / 2 ^ (256 * G)) in
           let e : in_group xs s k ≡ length first + left = omega (arith, between xs s (256 * G) (64 * i) (omega arith)) in
           record {
-            found = λ _. (rw en at less, rest_some inside ∙ rw (e, from_cut xs s (256 * G) (64 * i) (omega arith) (omega arith)) (drop-append-add first (from xs s (64 * i)) left));
-            none = λ o. absurd (omega arith);
+            inside = w;
+            row = rw en at less;
+            rest = rest_some inside ∙ rw (e, from_cut xs s (256 * G) (64 * i) (omega arith) (omega arith)) (drop-append-add first (from xs s (64 * i)) left);
           }
 
       pub locating_next : (n : ℕ) → i < end → n ≡ length (bits_of (word_of xs s i)) → n ≤ left → Locating g end (left - n) (i + 1)
@@ -74,11 +72,11 @@ module _ (xs : List ℕ) (s k : ℕ) where
           let b = before_word xs bytes s i (omega (arith, l.stop)) in
           record { group = l.group; stop = l.stop; begun = omega (arith, l.begun); inside = omega arith; sum = omega (arith, l.sum) }
 
-      pub spotted_none : end ≤ i → Spotted xs s k (record { index = words_of s; left = 0 })
+      pub spotted_none : end ≤ i → bitmap_rest xs s k ≡ []
       spotted_none h =
           let G = group_for xs s k in
           let f : i ≡ min (4 * g + 4) (words_of s) = omega (arith, l.stop, l.inside) in
           let e : i ≡ min (4 * G + 4) (words_of s) = rw l.group at f in
           let sum : before xs s (64 * i) + left ≡ before xs s (256 * G) + in_group xs s k = rw l.group at l.sum in
           let b : before xs s (64 * i) ≡ before xs s (256 * (G + 1)) = rw e (before_group xs bytes s G) in
-          record { found = λ o. absurd (omega arith); none = λ _. rest_none (omega (arith, group_rows_lem G)) }
+          rest_none (omega (arith, group_rows_lem G))

@@ -1,6 +1,6 @@
 -- What the readers of a bitmap answer on any bytes of the right length. A law says what that is of the list where the body is accepted.
 -- Assumes nothing.
-use Rattle.std.specs.Prelude.{◌≡◌, ℕ, ◌+◌, ◌-◌, ◌*◌, ◌/◌, ◌^◌, ◌<◌, ◌≤◌, false, List, [], ◌++◌, length, take, drop, nat_lt, slice_index}
+use Rattle.std.specs.Prelude.{◌≡◌, ℕ, ◌+◌, ◌-◌, ◌*◌, ◌/◌, ◌^◌, ◌<◌, ◌≤◌, false, List, [], ◌++◌, length, take, drop, nat_lt, slice_index, ◌≢◌, Option, MatchOption}
 use Rattle.model.specs.Tests.{pick}
 use Rattle.model.specs.Lists.{has, moved}
 use Rattle.model.specs.declared.Place.{Place}
@@ -8,6 +8,7 @@ use Rattle.search.specs.Search.{find, up_to}
 use Rattle.word.specs.Bits.{bits_from, bits_of}
 use Rattle.bitmap.specs.Body.{words_of, groups_of, number, word_of, stated, before, bitmap_names}
 use Rattle.bitmap.specs.declared.Spot.{Spot}
+use Rattle.bitmap.specs.declared.Cursor.{Cursor}
 
 -- ---- place: the rows that the position's group states, and those of the group below it
 
@@ -53,17 +54,26 @@ pub record Between (xs : List ℕ) (s i j n : ℕ) : Type 0 where
   pub sum : before xs s (64 * i) + n ≡ before xs s (64 * j)
   pub most : n ≤ 64 * (j - i)
 
--- the rows from ordinal k on are those of a word from its row `left` on, and of the words after it; past the last word there are none
-pub record Spotted (xs : List ℕ) (s k : ℕ) (r : Spot) : Type 0 where
-  pub found : r.index < words_of s → (r.left < length (bits_of (word_of xs s r.index))) × (bitmap_rest xs s k ≡ drop r.left (from xs s (64 * r.index)))
-  pub none : words_of s ≤ r.index → bitmap_rest xs s k ≡ []
+-- the rows from ordinal k on are those of a word from its row `left` on, and of the words after it
+pub record Standing (xs : List ℕ) (s k : ℕ) (r : Spot) : Type 0 where
+  pub inside : r.index < words_of s
+  pub row : r.left < length (bits_of (word_of xs s r.index))
+  pub rest : bitmap_rest xs s k ≡ drop r.left (from xs s (64 * r.index))
+
+-- such a spot, and none where there are no such rows
+abbrev pub Spotted : List ℕ → ℕ → ℕ → Option Spot → Type 0
+Spotted xs s k r = MatchOption r (bitmap_rest xs s k ≡ []) (Standing xs s k)
 
 -- the rows from word i on, of which w is what is left
 abbrev pub rest_of : List ℕ → ℕ → ℕ → ℕ → List ℕ
 rest_of xs s i w = bits_from 64 (64 * i) w ++ from xs s (64 * (i + 1))
 
--- the same rows are left, and the word at hand has the first of them, if there is one
-pub record Settled (xs : List ℕ) (s i w j v : ℕ) : Type 0 where
-  pub inside : j < words_of s
-  pub same : rest_of xs s j v ≡ rest_of xs s i w
-  pub over : v ≡ 0 → rest_of xs s i w ≡ []
+-- the same rows are left, and the word at hand has the first of them
+pub record Left (xs : List ℕ) (s i w : ℕ) (c : Cursor) : Type 0 where
+  pub inside : c.index < words_of s
+  pub some : c.word ≢ 0
+  pub same : rest_of xs s c.index c.word ≡ rest_of xs s i w
+
+-- such a word, and none where no rows are left
+abbrev pub Settled : List ℕ → ℕ → ℕ → ℕ → Option Cursor → Type 0
+Settled xs s i w r = MatchOption r (rest_of xs s i w ≡ []) (Left xs s i w)

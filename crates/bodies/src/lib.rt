@@ -2,69 +2,104 @@
 
 #![tactic(auto)]
 
-ghost use Rattle.std.specs.Prelude.{◌≡◌, true, ◌<◌, ◌≤◌, length, get_or};
+ghost use Rattle.std.specs.Prelude.{◌≡◌, ◌^◌, ◌<◌, ◌≤◌, true, is_some, IfSome, length, get_or};
+ghost use Rattle.fields.specs.Le.{Bytes};
 ghost use Rattle.model.specs.Lists.{place_of, walk_of};
 ghost use Rattle.model.specs.Answers.{over, ranks_of, Walked};
 ghost use Rattle.bodies.specs.Bodies.{accepts, names};
 
 use model::Place;
+use segmented::Segmented;
 
 pub fn check(tag: u8, span: u32, body: &[u8]) -> bool
     ensures { result ≡ accepts tag span body.now }
 {
     if tag == 9 {
-        return segmented::check(span, body);
+        segmented::check(span, body)
+    } else {
+        single::check(tag, span, body)
     }
-    single::check(tag, span, body)
 }
 
-pub fn count(tag: u8, span: u32, body: &[u8]) -> u16
-    requires { accepts tag span body.now ≡ true }
-    ensures { result ≡ length (names tag span body.now) }
-{
-    if tag == 9 {
-        return fields::read16(body, 0);
-    }
-    single::parse(tag, span, body).count
+// A body that is accepted under its tag. `narrow` and `bytes` are what the types of the fields say.
+#[derive(Clone, Copy)]
+pub struct Accepted<'a> {
+    tag: u8,
+    span: u32,
+    body: &'a [u8],
+    ghost narrow: { span < 2 ^ 32 },
+    ghost bytes: { Bytes body.now },
+    ghost accepted: { accepts tag span body.now ≡ true },
 }
 
-pub fn place(tag: u8, span: u32, body: &[u8], p: u32) -> Place
-    requires { accepts tag span body.now ≡ true }
-    ensures { result ≡ place_of (names tag span body.now) p }
+// The body, if it is accepted.
+pub fn accept<'a>(tag: u8, span: u32, body: &'a [u8]) -> Option<Accepted<'a>>
+    ensures accepted { is_some result ≡ accepts tag span body.now }
+    ensures same { IfSome result (λ a. (a.tag ≡ tag) × (a.span ≡ span) × (a.body.now ≡ body.now)) }
 {
-    if tag == 9 {
-        return segmented::place(span, body, p);
+    if check(tag, span, body) {
+        Some(Accepted { tag, span, body })
+    } else {
+        None
     }
-    single::place(single::parse(tag, span, body), body, p)
 }
 
-// Writes the rank of each position, or the number that stands for nothing.
-pub fn ranks(tag: u8, span: u32, body: &[u8], positions: &[u32], out: &mut [u32])
-    requires { (accepts tag span body.now ≡ true) × (length positions.now ≤ length out.old) }
-    ensures { out.new ≡ over (ranks_of (names tag span body.now) positions.now) out.old }
-{
-    if tag == 9 {
-        return segmented::ranks(span, body, positions, out);
+impl<'a> Accepted<'a> {
+    pub fn count(&self) -> u16
+        ensures { result ≡ length (names self.now.tag self.now.span self.now.body.now) }
+    {
+        if self.tag == 9 {
+            fields::read16(self.body, 0)
+        } else {
+            single::parse(self.tag, self.span, self.body).count
+        }
     }
-    single::ranks(tag, span, body, positions, out);
-}
 
-pub fn select(tag: u8, span: u32, body: &[u8], k: u16) -> u32
-    requires { (accepts tag span body.now ≡ true) × (k < length (names tag span body.now)) }
-    ensures { result ≡ get_or (names tag span body.now) k 0 }
-{
-    if tag == 9 {
-        return segmented::select(span, body, k);
+    pub fn place(&self, p: u32) -> Place
+        ensures { result ≡ place_of (names self.now.tag self.now.span self.now.body.now) p }
+    {
+        if self.tag == 9 {
+            Segmented::new(self.span, self.body).place(p)
+        } else {
+            single::place(single::parse(self.tag, self.span, self.body), self.body, p)
+        }
     }
-    single::select(single::parse(tag, span, body), body, k)
-}
 
-pub fn walk(tag: u8, span: u32, body: &[u8], k: u16, out: &mut [u32]) -> usize
-    requires { accepts tag span body.now ≡ true }
-    ensures { Walked (walk_of (names tag span body.now) k (length out.old)) out.old out.new result }
-{
-    if tag == 9 {
-        return segmented::walk(span, body, k, out);
+    // Writes the rank of each position, or the number that stands for nothing.
+    pub fn ranks(&self, positions: &[u32], out: &mut [u32])
+        requires { length positions.now ≤ length out.old }
+        ensures { out.new ≡ over (ranks_of (names self.now.tag self.now.span self.now.body.now) positions.now) out.old }
+    {
+        if self.tag == 9 {
+            Segmented::new(self.span, self.body).ranks(positions, out)
+        } else {
+            single::ranks(self.tag, self.span, self.body, positions, out)
+        }
     }
-    single::walk(single::parse(tag, span, body), body, k, out)
+
+    pub fn select(&self, k: u16) -> u32
+        requires { k < length (names self.now.tag self.now.span self.now.body.now) }
+        ensures { result ≡ get_or (names self.now.tag self.now.span self.now.body.now) k 0 }
+    {
+        if self.tag == 9 {
+            Segmented::new(self.span, self.body).select(k)
+        } else {
+            single::select(single::parse(self.tag, self.span, self.body), self.body, k)
+        }
+    }
+
+    pub fn walk(&self, k: u16, out: &mut [u32]) -> usize
+        ensures { Walked (walk_of (names self.now.tag self.now.span self.now.body.now) k (length out.old)) out.old out.new result }
+    {
+        if self.tag == 9 {
+            Segmented::new(self.span, self.body).walk(k, out)
+        } else {
+            single::walk(
+                single::parse(self.tag, self.span, self.body),
+                self.body,
+                k,
+                out,
+            )
+        }
+    }
 }

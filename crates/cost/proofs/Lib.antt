@@ -1,5 +1,6 @@
 pub mod Depths
 pub mod Choices
+pub mod Tuples
 pub mod Least
 pub mod Bytes
 pub mod Examples

@@ -7,52 +7,55 @@ ghost use Rattle.cost.specs.Sizes.{depth_of};
 ghost use Rattle.cost.specs.Forms.{Over, items_form, bitmap_form, dense_form, order_of, lex, key_of, lesser, least, local_form, payload, runs_form, plain_offers, whole_form};
 
 use crate::Form;
-use stats::{Stats, one_if};
+use stats::Stats;
 
 // The bytes of a bitmap of so many positions: a word for 64, and two bytes for 256.
 pub fn bitmap_length(span: u64) -> u64
     requires { span ≤ 4294967295 }
     ensures { result ≡ bitmap_length span }
 {
-    let words = (span + 63) / 64;
-    8 * words + 2 * ((words + 3) / 4)
+    let words = span.div_ceil(64);
+    8 * words + 2 * words.div_ceil(4)
 }
 
 // The count of binary digits.
 pub fn depth(n: u64) -> u32
     ensures { result ≡ depth_of n }
 {
-    64 - u64::leading_zeros(n)
+    64 - n.leading_zeros()
 }
 
 // A form with a depth of n items.
+#[tactic(auto, unfolding(crate::specs::Forms::items_form))]
 fn items(tag: u8, trimmed: bool, bytes: u64, n: u64) -> Form
     ensures { result ≡ items_form tag trimmed bytes n }
 {
     Form {
-        tag: tag,
-        trimmed: trimmed,
-        bytes: bytes,
+        tag,
+        trimmed,
+        bytes,
         depth: depth(n),
         words: 0,
     }
 }
 
 // A bitmap of span positions after a header.
+#[tactic(auto, unfolding(crate::specs::Forms::bitmap_form))]
 fn bitmap(trimmed: bool, header: u64, span: u64) -> Form
     requires { (header ≤ 12) × (span ≤ 4294967295) }
     ensures { result ≡ bitmap_form trimmed header span }
 {
-    let words = (span + 63) / 64;
+    let words = span.div_ceil(64);
     Form {
         tag: 6,
-        trimmed: trimmed,
+        trimmed,
         bytes: header + bitmap_length(span),
-        depth: depth((words + 3) / 4),
+        depth: depth(words.div_ceil(4)),
         words: 4,
     }
 }
 
+#[tactic(auto, unfolding(crate::specs::Forms::dense_form))]
 fn dense() -> Form
     ensures { result ≡ dense_form }
 {
@@ -66,46 +69,36 @@ fn dense() -> Form
 }
 
 // The place of a tag in the code order.
+#[tactic(auto, unfolding(crate::specs::Forms::order_of, model::specs::Tests::pick))]
 fn order(tag: u8) -> u32
     ensures { result ≡ order_of tag }
 {
-    if tag <= 1 {
-        return 0;
+    match tag {
+        0 | 1 => 0,
+        2 | 3 => 1,
+        4 | 5 => 2,
+        6 => 4,
+        7 | 8 => 3,
+        _ => 5,
     }
-    if tag <= 3 {
-        return 1;
-    }
-    if tag <= 5 {
-        return 2;
-    }
-    if tag <= 6 {
-        return 4;
-    }
-    if tag <= 8 { 3 } else { 5 }
+}
+
+// What forms are compared by, the first place first: a plain form comes before a trimmed one.
+fn key(f: Form) -> (u64, u32, u32, u32, bool)
+    ensures { result ≡ (f.bytes, f.depth, f.words, order_of f.tag, f.trimmed) }
+{
+    (f.bytes, f.depth, f.words, order(f.tag), f.trimmed)
 }
 
 // Whether f costs less than g, by the first of the five where they differ.
 fn costs_less(f: Form, g: Form) -> bool
     ensures { result ≡ lex (key_of f) (key_of g) }
 {
-    if f.bytes != g.bytes {
-        return f.bytes < g.bytes;
-    }
-    if f.depth != g.depth {
-        return f.depth < g.depth;
-    }
-    if f.words != g.words {
-        return f.words < g.words;
-    }
-    let a = order(f.tag);
-    let b = order(g.tag);
-    if a != b {
-        return a < b;
-    }
-    one_if(f.trimmed) < one_if(g.trimmed)
+    key(f) < key(g)
 }
 
 // The cheaper of two forms, the first where neither is.
+#[tactic(auto, unfolding(crate::specs::Forms::lesser, model::specs::Tests::pick))]
 fn cheaper(f: Form, g: Form) -> Form
     ensures { result ≡ lesser f g }
 {
@@ -113,6 +106,7 @@ fn cheaper(f: Form, g: Form) -> Form
 }
 
 // The same, where the second may be taken.
+#[tactic(auto, unfolding(model::specs::Tests::pick))]
 fn consider(f: Form, allowed: bool, g: Form) -> Form
     ensures { result ≡ pick allowed (lesser f g) f }
 {
@@ -145,12 +139,6 @@ pub fn local_form(s: Stats) -> Form
     cheaper(d, bitmap(false, 0, span))
 }
 
-fn fewer(a: u64, b: u64) -> u64
-    ensures { result ≡ min a b }
-{
-    if a <= b { a } else { b }
-}
-
 // The bytes of that form alone, which merging asks for at every pair: the fewest of a list, runs, the missing positions and a
 // bitmap. Dense has no missing positions.
 pub fn payload(s: Stats) -> u64
@@ -159,11 +147,12 @@ pub fn payload(s: Stats) -> u64
 {
     let count = s.count as u64;
     let span = local_span(s);
-    let few = fewer(2 * count, 6 * s.runs as u64);
-    fewer(few, fewer(2 * (span - count), bitmap_length(span)))
+    let few = (2 * count).min(6 * s.runs as u64);
+    few.min(2 * (span - count)).min(bitmap_length(span))
 }
 
 // Runs of a whole row set: of 16-bit starts where every position has 16 bits, else of 32-bit starts.
+#[tactic(auto, unfolding(crate::specs::Forms::runs_form, model::specs::Tests::pick))]
 fn whole_runs(narrow: bool, runs: u64) -> Form
     requires { runs ≤ 4294967295 }
     ensures { result ≡ runs_form narrow runs }
@@ -176,6 +165,7 @@ fn whole_runs(narrow: bool, runs: u64) -> Form
 }
 
 // The cheapest of the forms that start at position 0.
+#[tactic(auto, unfolding(crate::specs::Forms::least, crate::specs::Forms::plain_offers, model::specs::Tests::pick))]
 fn plain_form(s: Stats, span: u32) -> Form
     requires { Over s span }
     ensures { result ≡ least (items_form 2 false (4 * s.count) s.count) (plain_offers s span) }
@@ -192,6 +182,7 @@ fn plain_form(s: Stats, span: u32) -> Form
 }
 
 // The cheapest form of a whole row set over a span.
+#[tactic(auto, unfolding(crate::specs::Forms::least, crate::specs::Forms::whole_form, crate::specs::Forms::plain_offers, crate::specs::Forms::trimmed_offers, model::specs::Tests::pick))]
 pub fn whole_form(s: Stats, span: u32) -> Form
     requires { Over s span }
     ensures { result ≡ whole_form s span }

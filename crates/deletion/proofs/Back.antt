@@ -25,13 +25,13 @@ use Rattle.planning.specs.Planning.{planned_form, planned_body, plan_number, pla
 use Rattle.planning.proofs.Accepted.{Planned, planned, plan_divided, plan_number_lem}
 use Rattle.deletion.specs.Reading.{body_limit, block_fits, stated_fit, coded_number, section_number, deleted_of, check_answer, contains_answer, walk_answer, walk_left}
 use Rattle.deletion.specs.Striking.{no_deletions, strikes, strike_of, strike_out}
-use Rattle.deletion.specs.declared.Section.{Section}
-use Rattle.deletion.specs.declared.Section.TheVariants as section
+use Rattle.std.specs.Prelude.{Option, Some, None}
+use Rattle.deletion.specs.declared.Coded.{Coded}
 use Rattle.deletion.proofs.Sections.{answers, leaves}
 
 -- the section that stands for a plan, and its body: as many bytes at the front of the output as the answer says
-abbrev pub struck_section : ℕ → List ℕ → Section
-struck_section rows ordinals = section.Coded (length ordinals) (planned_form 0 rows ordinals []).tag
+abbrev pub struck_section : ℕ → List ℕ → Option Coded
+struck_section rows ordinals = Some (record { count = length ordinals; tag = (planned_form 0 rows ordinals []).tag })
 
 abbrev pub struck_body : ℕ → ℕ → List ℕ → ℕ → List ℕ → List ℕ
 struck_body rows limit ordinals words out = take (planned_form 0 rows ordinals []).bytes (strike_out rows limit ordinals words out)
@@ -105,6 +105,6 @@ module _ (rows limit : ℕ) (fits : block_fits rows limit ≡ true) where
   unfolding strike_of
   none_empty words room = pick_true _ _ fits ∙ pick_false _ _ refl
 
-  pub empty_count : (body : List ℕ) → check_answer rows limit section.Empty body ≡ accepted (0 ∷ [])
+  pub empty_count : (body : List ℕ) → check_answer rows limit None body ≡ accepted (0 ∷ [])
   unfolding check_answer section_number deleted_of
   empty_count body = sym (answers (sym (pick_true 0 9 fits)) refl refl)

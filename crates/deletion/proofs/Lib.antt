@@ -1,8 +1,8 @@
 pub mod Sections
 pub mod Walking
 pub mod Same
-pub mod Planning
 pub mod Bound
 pub mod Back
 pub mod Members
 pub mod Examples
+pub mod Planning

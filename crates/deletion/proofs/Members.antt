@@ -13,16 +13,16 @@ use Rattle.model.proofs.Tests.{either, pick_true, pick_false}
 use Rattle.model.proofs.Standing.{has_at, has_index}
 use Rattle.bodies.proofs.Named.{names_rising}
 use Rattle.deletion.specs.Reading.{section_number, deleted_of, sound, contains_answer}
-use Rattle.deletion.specs.declared.Section.{Section}
-use Rattle.deletion.specs.declared.Section.TheVariants as section
+use Rattle.std.specs.Prelude.{Option, Some, None}
+use Rattle.deletion.specs.declared.Coded.{Coded}
 use Rattle.deletion.proofs.Sections.{answers, number-sound, coded_accepted}
 
-sound_rising : (rows : ℕ) (s : Section) (body : List ℕ) → Bytes body → sound rows s body ≡ true → Rising 0 rows (deleted_of rows s body)
+sound_rising : (rows : ℕ) (s : Option Coded) (body : List ℕ) → Bytes body → sound rows s body ≡ true → Rising 0 rows (deleted_of rows s body)
 unfolding deleted_of
-sound_rising rows section.Empty body b e = none
-sound_rising rows (section.Coded count tag) body b e = names_rising tag rows body (coded_accepted rows body refl e) b
+sound_rising rows None body b e = none
+sound_rising rows (Some s) body b e = names_rising s.tag rows body (coded_accepted rows body refl e) b
 
-module _ (rows limit : ℕ) (s : Section) (body : List ℕ) (ok : section_number rows limit s body ≡ 0) where
+module _ (rows limit : ℕ) (s : Option Coded) (body : List ℕ) (ok : section_number rows limit s body ≡ 0) where
   pub contains_deleted : (i : ℕ) → i < length (deleted_of rows s body) → contains_answer rows limit s body (get_or (deleted_of rows s body) i 0) ≡ accepted (1 ∷ [])
   unfolding contains_answer
   contains_deleted i h = sym (answers (sym ok) refl (ap (λ (n : ℕ). n ∷ []) (sym (pick_true 1 0 (has_at (deleted_of rows s body) i h)))))

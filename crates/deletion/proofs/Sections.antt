@@ -12,12 +12,15 @@ use Rattle.model.specs.Tests.{pick}
 use Rattle.model.specs.Answers.{accepted, refused}
 use Rattle.model.proofs.Tests.{pick_true, pick_false, both_true, both_left, both_right}
 use Rattle.gather_core.proofs.Admitted.{passes}
-use Rattle.bodies.specs.Bodies.{accepts, names}
+use Rattle.bodies.specs.Bodies.{accepts}
 use Rattle.planning.specs.Planning.{answered}
 use Rattle.planning.proofs.Accepted.{answered_none, answered_some}
 use Rattle.deletion.specs.Reading.{coded_number, section_number, deleted_of, stated_of, sound}
-use Rattle.deletion.specs.declared.Section.{Section}
-use Rattle.deletion.specs.declared.Section.TheVariants as section
+use Rattle.std.specs.Prelude.{Option, Some, None}
+use Rattle.model.specs.Refusals.{number_of}
+use Rattle.model.specs.declared.refusal.Refusal.{Refusal}
+use Rattle.rowset.proofs.Same.{number_not}
+use Rattle.deletion.specs.declared.Coded.{Coded}
 
 -- ---- refused, or asked: r is the number that the tests gave
 
@@ -35,27 +38,31 @@ module _ {r n : ℕ} (e : r ≡ n) where
   pub leaves : {out new : List ℕ} (old : List ℕ) → r ≡ 0 → out ≡ new → out ≡ pick (eqb n 0) new old
   leaves old h q = q ∙ sym (pick_true _ _ (eq-eqb n 0 (sym e ∙ h)))
 
+-- ---- passed on: the refusal that the tests gave
+
+pub passed : (r : Refusal) (n : ℕ) (vs : List ℕ) → number_of r ≡ n → refused (number_of r) ≡ answered n vs
+passed r n vs e = refuses e vs (number_not r)
+
+pub kept : (r : Refusal) (n : ℕ) (new old : List ℕ) → number_of r ≡ n → old ≡ pick (eqb n 0) new old
+kept r n new old e = keeps e new old (number_not r)
+
 -- ---- a section that no test refuses
 
-pub number-sound : (rows limit : ℕ) (s : Section) (body : List ℕ) → section_number rows limit s body ≡ 0 → sound rows s body ≡ true
+pub number-sound : (rows limit : ℕ) (s : Option Coded) (body : List ℕ) → section_number rows limit s body ≡ 0 → sound rows s body ≡ true
 unfolding section_number coded_number sound
-number-sound rows limit section.Empty body e = refl
-number-sound rows limit (section.Coded count tag) body e =
+number-sound rows limit None body e = refl
+number-sound rows limit (Some s) body e =
     let inner = (passes _ 9 _ (λ z. omega arith) e).1 in
     let last = passes _ 8 _ (λ z. omega arith) inner in
     both_true _ _ last.0 (passes _ 10 0 (λ z. omega arith) last.1).0
 
 -- the stated count is the number of deleted ordinals
-pub sound_count : (rows : ℕ) (s : Section) (body : List ℕ) → sound rows s body ≡ true → stated_of s ≡ length (deleted_of rows s body)
+pub sound_count : (rows : ℕ) (s : Option Coded) (body : List ℕ) → sound rows s body ≡ true → stated_of s ≡ length (deleted_of rows s body)
 unfolding sound stated_of deleted_of
-sound_count rows section.Empty body e = refl
-sound_count rows (section.Coded count tag) body e = sym (eqb-true _ _ (both_right _ _ e))
+sound_count rows None body e = refl
+sound_count rows (Some s) body e = sym (eqb-true _ _ (both_right _ _ e))
 
-module _ (rows : ℕ) (body : List ℕ) {s : Section} {count tag : ℕ} (q : s ≡ section.Coded count tag) (e : sound rows s body ≡ true) where
-  pub coded_accepted : accepts tag rows body ≡ true
+module _ (rows : ℕ) (body : List ℕ) {s : Option Coded} {coded : Coded} (q : s ≡ Some coded) (e : sound rows s body ≡ true) where
+  pub coded_accepted : accepts coded.tag rows body ≡ true
   unfolding sound
   coded_accepted = both_left _ _ (rw q at e)
-
-  pub coded_count : count ≡ length (names tag rows body)
-  unfolding stated_of deleted_of
-  coded_count = rw q at (sound_count rows s body e)

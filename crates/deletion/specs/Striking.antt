@@ -1,23 +1,26 @@
 -- The deletion view, planned: what is answered, and what stands in the output and in the workspace then.
 -- Assumes nothing.
-use Rattle.std.specs.Prelude.{Bool, List, [], ◌∷◌, ℕ, leb, length}
+use Rattle.std.specs.Prelude.{Bool, List, [], ◌∷◌, ℕ, leb, length, Option, Some, None, Result}
 use Rattle.model.specs.Tests.{pick, both}
 use Rattle.model.specs.Answers.{Answer, accepted, refused}
+use Rattle.model.specs.Refusals.{answer_of}
+use Rattle.model.specs.declared.refusal.Refusal.{Refusal}
 use Rattle.planning.specs.Planning.{plan_of, plan_out, plan_work}
+use Rattle.plan.specs.declared.Body.{Body}
 use Rattle.plan.specs.Plans.{values_of}
 use Rattle.deletion.specs.Reading.{body_limit, block_fits}
-use Rattle.deletion.specs.declared.Struck.{Struck}
-use Rattle.deletion.specs.declared.Struck.TheVariants as struck
 
 -- no deletions: their number, 0, and no tag
 abbrev pub no_deletions : Answer
 no_deletions = accepted (0 ∷ [])
 
 -- tag, body length, segments after merging and offers of a plan
-unfoldable pub struck_of : Struck → Answer
-struck_of struck.Empty = no_deletions
-struck_of (struck.Made b) = accepted (values_of b)
-struck_of (struck.Refused k) = refused k
+unfoldable pub struck_values : Option Body → List ℕ
+struck_values None = 0 ∷ []
+struck_values (Some b) = values_of b
+
+unfoldable pub struck_of : Result (Option Body) Refusal → Answer
+struck_of result = answer_of struck_values result
 
 -- whether there is anything to plan: test 9 is met, and there are deletions
 unfoldable pub strikes : ℕ → ℕ → List ℕ → Bool

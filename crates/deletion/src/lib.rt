@@ -3,294 +3,242 @@
 
 #![tactic(auto)]
 
-ghost use Rattle.std.specs.Prelude.{◌≡◌, true, ℕ, ◌+◌, ◌-◌, ◌≤◌, ◌<◌, min, length, get_or, take};
+ghost use Rattle.std.specs.Prelude.{◌≡◌, ℕ, ◌+◌, ◌-◌, ◌≤◌, ◌<◌, length, get_or, IfOk, IfSome};
 ghost use Rattle.std.proofs.lemmas.List.Edits.{sets};
 ghost use Rattle.model.specs.Tests.{pick};
 ghost use Rattle.model.specs.Lists.{has, walk_of};
 ghost use Rattle.model.specs.Answers.{over, Walked};
-ghost use Rattle.bodies.specs.Bodies.{accepts, names};
+ghost use Rattle.model.specs.Refusals.{number_in};
+ghost use Rattle.bodies.specs.Bodies.{names};
 ghost use Rattle.rowset.specs.Calls.{filled_of};
-ghost use Rattle.deletion.specs.Reading.{counted_of, contained_of, body_limit, block_fits, stated_fit, coded_number, section_number, deleted_of, stated_of, sound, check_answer, contains_answer, walk_answer, walk_left};
-ghost use Rattle.plan.specs.Plans.{planned_of};
+ghost use Rattle.deletion.specs.Reading.{counted_of, contained_of, body_limit, block_fits, stated_fit, coded_number, section_number, deleted_of, stated_of, held_by, check_answer, contains_answer, walk_answer, walk_left};
 ghost use Rattle.deletion.specs.Striking.{struck_of, strike_of, strike_out, strike_work};
 
-use model::Place;
-use plan::{Body, Planned};
-use rowset::Filled;
+use bodies::Accepted;
+use model::Refusal;
+use plan::Body;
 
-// No deletions, or a body of this tag that stands beside it, with the count that is stated of it.
+// What a section says of the body that stands beside it: its tag, and how many deletions it has. A section of no deletions has no body.
 #[derive(Clone, Copy)]
-pub enum Section {
-    Empty,
-    Coded { count: u16, tag: u8 },
-}
-
-// How many rows are deleted, or the number of the refusal.
-#[derive(Clone, Copy)]
-pub enum Counted {
-    Deleted(u16),
-    Refused(u8),
-}
-
-// Whether a row is deleted, or the number of the refusal.
-#[derive(Clone, Copy)]
-pub enum Contained {
-    Yes,
-    No,
-    Refused(u8),
-}
-
-// No deletions, the plan of their body, or the number of the refusal.
-#[derive(Clone, Copy)]
-pub enum Struck {
-    Empty,
-    Made(Body),
-    Refused(u8),
+pub struct Coded {
+    pub count: u16,
+    pub tag: u8,
 }
 
 // ---- the tests
 
 // The bytes of a bitmap of all rows, with its header.
+#[tactic(auto, unfolding(crate::specs::Reading::body_limit))]
 fn body_limit(rows: u16) -> usize
     ensures { result ≡ body_limit rows }
 {
-    (4 + cost::bitmap_length(rows as u64)) as usize
+    (4 + cost::bitmap_length(u64::from(rows))) as usize
 }
 
+#[tactic(auto, unfolding(crate::specs::Reading::block_fits, model::specs::Tests::both))]
 fn block_fits(rows: u16, limit: usize) -> bool
     ensures { result ≡ block_fits rows limit }
 {
-    if rows < 1 {
-        return false;
-    }
-    (rows as usize) <= limit
+    1 <= rows && usize::from(rows) <= limit
 }
 
+#[tactic(auto, unfolding(crate::specs::Reading::stated_fit, model::specs::Tests::both))]
 fn stated_fit(rows: u16, count: u16, size: usize) -> bool
     ensures { result ≡ stated_fit rows count size }
 {
-    if count < 1 {
-        return false;
-    }
-    if rows < count {
-        return false;
-    }
-    size <= body_limit(rows)
+    1 <= count && count <= rows && size <= body_limit(rows)
 }
 
-fn empty_number(rows: u16, limit: usize) -> u8
-    ensures { result ≡ pick {A = ℕ} (block_fits rows limit) 0 9 }
+#[tactic(auto, unfolding(model::specs::Tests::pick))]
+fn check_block(rows: u16, limit: usize) -> Result<(), Refusal>
+    ensures { number_in result ≡ pick {A = ℕ} (block_fits rows limit) 0 9 }
 {
-    if block_fits(rows, limit) { 0 } else { 9 }
+    if block_fits(rows, limit) {
+        Ok(())
+    } else {
+        Err(Refusal::Block)
+    }
 }
 
-// 9, then 8, then 10, or 0.
-fn coded_number(rows: u16, limit: usize, count: u16, tag: u8, body: &[u8]) -> u8
-    ensures { result ≡ coded_number rows limit count tag body.now }
+// The block and the stated count, then the body, then its count.
+#[tactic(auto, unfolding(crate::specs::Reading::coded_number, model::specs::Tests::both, model::specs::Tests::pick))]
+fn check_coded<'a>(
+    rows: u16,
+    limit: usize,
+    coded: Coded,
+    body: &'a [u8],
+) -> Result<Accepted<'a>, Refusal>
+    ensures number { number_in result ≡ coded_number rows limit coded.count coded.tag body.now }
+    ensures same { IfOk result (λ a. (a.tag ≡ coded.tag) × (a.span ≡ rows) × (a.body.now ≡ body.now)) }
 {
-    if !block_fits(rows, limit) {
-        return 9;
+    if !block_fits(rows, limit) || !stated_fit(rows, coded.count, body.len()) {
+        return Err(Refusal::Block);
     }
-    if !stated_fit(rows, count, body.len()) {
-        return 9;
+    let accepted = bodies::accept(coded.tag, u32::from(rows), body).ok_or(Refusal::Body)?;
+    if accepted.count() != coded.count {
+        return Err(Refusal::Count);
     }
-    if !bodies::check(tag, rows as u32, body) {
-        return 8;
-    }
-    if bodies::count(tag, rows as u32, body) != count {
-        return 10;
-    }
-    0
+    Ok(accepted)
 }
 
-fn number(rows: u16, limit: usize, section: Section, body: &[u8]) -> u8
-    ensures { result ≡ section_number rows limit section body.now }
+// The body of a section that no test refuses; an empty section has none.
+#[tactic(auto, unfolding(crate::specs::Reading::section_number, crate::specs::Reading::deleted_of, crate::specs::Reading::held_by))]
+fn check_section<'a>(
+    rows: u16,
+    limit: usize,
+    section: Option<Coded>,
+    body: &'a [u8],
+) -> Result<Option<Accepted<'a>>, Refusal>
+    ensures number { number_in result ≡ section_number rows limit section body.now }
+    ensures held { IfOk result (λ held. (held_by held ≡ deleted_of rows section body.now) × IfSome held (λ a. a.span ≤ 65535)) }
 {
     match section {
-        Section::Empty => empty_number(rows, limit),
-        Section::Coded { count, tag } => coded_number(rows, limit, count, tag, body),
+        None => {
+            check_block(rows, limit)?;
+            Ok(None)
+        }
+        Some(coded) => Ok(Some(check_coded(rows, limit, coded, body)?)),
     }
 }
 
 // ---- the deleted ordinals of a section that no test refuses
 
-fn stated(section: Section) -> u16
+#[tactic(auto, unfolding(crate::specs::Reading::stated_of))]
+fn stated(section: Option<Coded>) -> u16
     ensures { result ≡ stated_of section }
 {
     match section {
-        Section::Empty => 0,
-        Section::Coded { count, tag: _ } => count,
+        None => 0,
+        Some(coded) => coded.count,
     }
 }
 
-// Whether the position of a place is a row: how many stand below it says nothing of that.
-fn is_row(q: Place) -> bool
-    ensures { result ≡ q.present }
+#[tactic(auto, unfolding(crate::specs::Reading::held_by, model::specs::Lists::has, model::specs::Lists::place_of))]
+fn is_deleted(held: Option<Accepted>, ordinal: u16) -> bool
+    ensures { result ≡ has (held_by held.entry) ordinal }
 {
-    q.present
+    held.is_some_and(|accepted| accepted.place(u32::from(ordinal)).present)
 }
 
-fn present(tag: u8, rows: u16, body: &[u8], ordinal: u16) -> bool
-    requires { accepts tag rows body.now ≡ true }
-    ensures { result ≡ has (names tag rows body.now) ordinal }
+// The positions of a page, which have 16 bits, into the output from `at` on.
+fn copy(page: &[u32], out: &mut [u16], at: usize)
+    requires { (at + length page.now ≤ length out.old) × ((j : ℕ) → j < length page.now → get_or page.now j 0 ≤ 65535) }
+    ensures { out.new ≡ sets out.old at page.now }
 {
-    is_row(bodies::place(tag, rows as u32, body, ordinal as u32))
-}
-
-fn is_deleted(rows: u16, section: Section, body: &[u8], ordinal: u16) -> bool
-    requires { sound rows section body.now ≡ true }
-    ensures { result ≡ has (deleted_of rows section body.now) ordinal }
-{
-    match section {
-        Section::Empty => false,
-        Section::Coded { count: _, tag } => present(tag, rows, body, ordinal),
-    }
-}
-
-// How many ordinals a walk writes: as many as fit or remain.
-fn steps(count: u16, from: u16, room: usize) -> usize
-    ensures { result ≡ min room (count - from) }
-{
-    if count <= from {
-        return 0;
-    }
-    let left = (count - from) as usize;
-    if room < left { room } else { left }
-}
-
-// The first n positions of a page, which have 16 bits, into the output from `at` on.
-fn copy(page: &[u32], n: usize, out: &mut [u16], at: usize)
-    requires { (n ≤ length page.now) × (at + n ≤ length out.old) × ((j : ℕ) → j < n → get_or page.now j 0 ≤ 65535) }
-    ensures { out.new ≡ sets out.old at (take n page.now) }
-{
-    let mut i = 0;
-    while i < n {
-        out[at + i] = page[i] as u16;
-        i += 1;
+    for (i, position) in page.iter().enumerate() {
+        out[at + i] = *position as u16;
     }
 }
 
 // n deleted ordinals from the k-th on into the output from `at` on: a walk writes positions of 32 bits, to a page.
-fn write_page(tag: u8, rows: u16, body: &[u8], k: usize, n: usize, out: &mut [u16], at: usize)
-    requires { (accepts tag rows body.now ≡ true) × (n ≤ 64) × (k + n ≤ length (names tag rows body.now)) × (at + n ≤ length out.old) }
-    ensures { out.new ≡ sets out.old at (walk_of (names tag rows body.now) k n) }
+fn write_page(accepted: &Accepted, k: usize, n: usize, out: &mut [u16], at: usize)
+    requires { (accepted.now.span ≤ 65535) × (n ≤ 64) × (k + n ≤ length (names accepted.now.tag accepted.now.span accepted.now.body.now)) × (at + n ≤ length out.old) }
+    ensures { out.new ≡ sets out.old at (walk_of (names accepted.now.tag accepted.now.span accepted.now.body.now) k n) }
 {
     let mut page = [0u32; 64];
-    bodies::walk(tag, rows as u32, body, k as u16, &mut page);
-    copy(&page, n, out, at);
+    accepted.walk(k as u16, &mut page);
+    copy(&page[..n], out, at);
 }
 
-// As many as are left, a page at most.
-fn page_of(left: usize) -> usize
-    ensures { result ≡ min left 64 }
-{
-    if left < 64 { left } else { 64 }
-}
-
-fn write_from(tag: u8, rows: u16, body: &[u8], from: usize, n: usize, out: &mut [u16])
-    requires { (accepts tag rows body.now ≡ true) × (n ≤ length out.old) × (n ≤ length (names tag rows body.now) - from) }
-    ensures { out.new ≡ over (walk_of (names tag rows body.now) from n) out.old }
+fn write_from(accepted: &Accepted, from: usize, n: usize, out: &mut [u16])
+    requires { (accepted.now.span ≤ 65535) × (n ≤ length out.old) × (n ≤ length (names accepted.now.tag accepted.now.span accepted.now.body.now) - from) }
+    ensures { out.new ≡ over (walk_of (names accepted.now.tag accepted.now.span accepted.now.body.now) from n) out.old }
 {
     let mut i = 0;
     while i < n {
-        let m = page_of(n - i);
-        write_page(tag, rows, body, from + i, m, out, i);
+        let m = (n - i).min(64);
+        write_page(accepted, from + i, m, out, i);
         i += m;
     }
 }
 
-fn write_coded(tag: u8, rows: u16, count: u16, body: &[u8], from: u16, out: &mut [u16]) -> usize
-    requires { (accepts tag rows body.now ≡ true) × (count ≡ length (names tag rows body.now)) }
-    ensures { Walked (walk_of (names tag rows body.now) from (length out.old)) out.old out.new result }
+// As many ordinals as fit or remain.
+fn write_coded(accepted: &Accepted, from: u16, out: &mut [u16]) -> usize
+    requires { accepted.now.span ≤ 65535 }
+    ensures { Walked (walk_of (names accepted.now.tag accepted.now.span accepted.now.body.now) from (length out.old)) out.old out.new result }
 {
-    let n = steps(count, from, out.len());
-    write_from(tag, rows, body, from as usize, n, out);
+    let left = accepted.count().saturating_sub(from);
+    let n = out.len().min(usize::from(left));
+    write_from(accepted, usize::from(from), n, out);
     n
 }
 
-fn write(rows: u16, section: Section, body: &[u8], from: u16, out: &mut [u16]) -> usize
-    requires { sound rows section body.now ≡ true }
-    ensures { Walked (walk_of (deleted_of rows section body.now) from (length out.old)) out.old out.new result }
+#[tactic(auto, using(crate::proofs::Walking::walked_none), unfolding(crate::specs::Reading::held_by))]
+fn write(held: Option<Accepted>, from: u16, out: &mut [u16]) -> usize
+    requires { IfSome held (λ a. a.span ≤ 65535) }
+    ensures { Walked (walk_of (held_by held.entry) from (length out.old)) out.old out.new result }
 {
-    match section {
-        Section::Empty => 0,
-        Section::Coded { count, tag } => write_coded(tag, rows, count, body, from, out),
+    match held {
+        None => 0,
+        Some(accepted) => write_coded(&accepted, from, out),
     }
 }
 
 // ---- the calls
 
 // How many rows are deleted.
-pub fn check_deletions(rows: u16, limit: usize, section: Section, body: &[u8]) -> Counted
+#[tactic(auto, using(crate::proofs::Sections::passed), unfolding(crate::specs::Reading::counted_of, crate::specs::Reading::check_answer))]
+pub fn check_deletions(
+    rows: u16,
+    limit: usize,
+    section: Option<Coded>,
+    body: &[u8],
+) -> Result<u16, Refusal>
     ensures { counted_of result ≡ check_answer rows limit section body.now }
 {
-    let refusal = number(rows, limit, section, body);
-    if refusal != 0 {
-        return Counted::Refused(refusal);
-    }
-    Counted::Deleted(stated(section))
+    check_section(rows, limit, section, body)?;
+    Ok(stated(section))
 }
 
 // Whether the row of this ordinal is deleted.
-pub fn contains(rows: u16, limit: usize, section: Section, body: &[u8], ordinal: u16) -> Contained
+#[tactic(auto, using(crate::proofs::Sections::passed), unfolding(crate::specs::Reading::contained_of, crate::specs::Reading::contains_answer))]
+pub fn contains(
+    rows: u16,
+    limit: usize,
+    section: Option<Coded>,
+    body: &[u8],
+    ordinal: u16,
+) -> Result<bool, Refusal>
     ensures { contained_of result ≡ contains_answer rows limit section body.now ordinal }
 {
-    let refusal = number(rows, limit, section, body);
-    if refusal != 0 {
-        return Contained::Refused(refusal);
-    }
-    if is_deleted(rows, section, body, ordinal) {
-        return Contained::Yes;
-    }
-    Contained::No
+    let held = check_section(rows, limit, section, body)?;
+    Ok(is_deleted(held, ordinal))
 }
 
-// The deleted ordinals from the `from`-th on, as many as fit or remain.
+// The deleted ordinals from the `from`-th on, as many as fit or remain, and how many these are.
+#[tactic(auto, using(crate::proofs::Sections::passed), unfolding(rowset::specs::Calls::filled_of, crate::specs::Reading::walk_answer, crate::specs::Reading::walk_left))]
 pub fn walk_deletions(
     rows: u16,
     limit: usize,
-    section: Section,
+    section: Option<Coded>,
     body: &[u8],
     from: u16,
     out: &mut [u16],
-) -> Filled
+) -> Result<usize, Refusal>
     ensures result_value { filled_of result ≡ walk_answer rows limit section body.now from (length out.old) }
     ensures out_after { out.new ≡ walk_left rows limit section body.now from out.old }
 {
-    let refusal = number(rows, limit, section, body);
-    if refusal != 0 {
-        return Filled::Refused(refusal);
-    }
-    Filled::Written(write(rows, section, body, from, out))
+    let held = check_section(rows, limit, section, body)?;
+    Ok(write(held, from, out))
 }
 
-// What planning answers, of deletions.
-fn of_planned(p: Planned) -> Struck
-    ensures { struck_of result ≡ planned_of p }
-{
-    match p {
-        Planned::Made(b) => Struck::Made(b),
-        Planned::Refused(k) => Struck::Refused(k),
-    }
-}
-
-// The plan of the deleted ordinals. Where there are none, nothing is written, not even to the workspace.
+// The plan of the deleted ordinals. Where there are none, there is no plan, and nothing is written, not even to the workspace.
+#[tactic(auto, using(rowset::proofs::Same::number_not), unfolding(crate::specs::Striking::struck_of, crate::specs::Striking::struck_values, crate::specs::Striking::strike_of, crate::specs::Striking::strike_out, crate::specs::Striking::strike_work, crate::specs::Striking::strikes, plan::specs::Plans::planned_of, model::specs::Tests::both, model::specs::Tests::pick))]
 pub fn plan_deletions(
     rows: u16,
     limit: usize,
     ordinals: &[u16],
     work: &mut [u32],
     out: &mut [u8],
-) -> Struck
+) -> Result<Option<Body>, Refusal>
     ensures result_value { struck_of result ≡ strike_of rows limit ordinals.now (length work.old) (length out.old) }
     ensures out_after { out.new ≡ strike_out rows limit ordinals.now (length work.old) out.old }
     ensures work_after { work.new ≡ strike_work rows limit ordinals.now work.old }
 {
-    if !block_fits(rows, limit) {
-        return Struck::Refused(9);
+    check_block(rows, limit)?;
+    if ordinals.is_empty() {
+        return Ok(None);
     }
-    if ordinals.len() < 1 {
-        return Struck::Empty;
-    }
-    of_planned(plan::plan_ordinals(rows, ordinals, body_limit(rows), work, out))
+    let body = plan::plan_ordinals(rows, ordinals, body_limit(rows), work, out)?;
+    Ok(Some(body))
 }

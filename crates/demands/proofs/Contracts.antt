@@ -4,13 +4,10 @@
 -- Assumes nothing.
 use mathlib.Core.List.{List, []}
 use Prim.Native.Nat.{ℕ}
+use Rattle.std.specs.Prelude.{Bool, Option, Result}
+use Rattle.model.specs.declared.refusal.Refusal.{Refusal}
 use contract.Lifetimes.{Lfts}
 use denote.Ref.{Bor, MutBor}
-use Rattle.rowset.specs.declared.Checked.{Checked}
-use Rattle.rowset.specs.declared.Ranked.{Ranked}
-use Rattle.rowset.specs.declared.Selected.{Selected}
-use Rattle.rowset.specs.declared.Filled.{Filled}
-use Rattle.rowset.specs.declared.Entry.{Entry}
 use Rattle.rowset.proofs.validate.Reads as validate
 use Rattle.rowset.proofs.rank.Reads as rank
 use Rattle.rowset.proofs.select.Reads as select
@@ -18,20 +15,15 @@ use Rattle.rowset.proofs.segment.Reads as segment
 use Rattle.rowset.proofs.ranks.Reads as ranks
 use Rattle.rowset.proofs.walk.Reads as walk
 use Rattle.gather_core.specs.declared.Gatherer.{Gatherer}
-use Rattle.gather.specs.declared.Gathered.{Gathered}
-use Rattle.gather.specs.declared.lent.Added.{Added}
 use Rattle.gather.proofs.gather_row.Reads as gather-row
 use Rattle.gather.proofs.gather_page.Reads as gather-page
 use Rattle.gather.proofs.Promised.{of_row, of_page, Said}
 use Rattle.directory.specs.declared.Segment.{Segment}
 use Rattle.tables.proofs.segments.Reads as segments
-use Rattle.plan.specs.declared.Planned.{Planned}
+use Rattle.plan.specs.declared.Body.{Body}
 use Rattle.plan.proofs.plan_rows.Reads as plan-rows
 use Rattle.plan.proofs.plan_ordinals.Reads as plan-ordinals
-use Rattle.deletion.specs.declared.Section.{Section}
-use Rattle.deletion.specs.declared.Counted.{Counted}
-use Rattle.deletion.specs.declared.Contained.{Contained}
-use Rattle.deletion.specs.declared.Struck.{Struck}
+use Rattle.deletion.specs.declared.Coded.{Coded}
 use Rattle.deletion.proofs.check_deletions.Reads as check-deletions
 use Rattle.deletion.proofs.contains.Reads as contains
 use Rattle.deletion.proofs.walk_deletions.Reads as walk-deletions
@@ -63,31 +55,31 @@ abbrev MutSlice : Type 0
 MutSlice = MutBor (List ℕ)
 
 module _ (tag span : ℕ) (body : Slice) where
-  pub validate_says : (κs : Lfts 1) (r : Checked) → validate.Learnt κs (tag, (span, (body, tt))) r (tag, (span, (body, tt))) → ValidateSays tag span body.now r
+  pub validate_says : (κs : Lfts 1) (r : Result ℕ Refusal) → validate.Learnt κs (tag, (span, (body, tt))) r (tag, (span, (body, tt))) → ValidateSays tag span body.now r
   validate_says κs r l = l
 
-  pub rank_says : (κs : Lfts 1) (position : ℕ) (r : Ranked) → rank.Learnt κs (tag, (span, (body, (position, tt)))) r (tag, (span, (body, (position, tt)))) → RankSays tag span body.now position r
+  pub rank_says : (κs : Lfts 1) (position : ℕ) (r : Result (Option ℕ) Refusal) → rank.Learnt κs (tag, (span, (body, (position, tt)))) r (tag, (span, (body, (position, tt)))) → RankSays tag span body.now position r
   rank_says κs position r l = l
 
-  pub select_says : (κs : Lfts 1) (ordinal : ℕ) (r : Selected) → select.Learnt κs (tag, (span, (body, (ordinal, tt)))) r (tag, (span, (body, (ordinal, tt)))) → SelectSays tag span body.now ordinal r
+  pub select_says : (κs : Lfts 1) (ordinal : ℕ) (r : Result (Option ℕ) Refusal) → select.Learnt κs (tag, (span, (body, (ordinal, tt)))) r (tag, (span, (body, (ordinal, tt)))) → SelectSays tag span body.now ordinal r
   select_says κs ordinal r l = l
 
-  pub segment_says : (κs : Lfts 1) (i : ℕ) (r : Entry) → segment.Learnt κs (tag, (span, (body, (i, tt)))) r (tag, (span, (body, (i, tt)))) → SegmentSays tag span body.now i r
+  pub segment_says : (κs : Lfts 1) (i : ℕ) (r : Result (Option Segment) Refusal) → segment.Learnt κs (tag, (span, (body, (i, tt)))) r (tag, (span, (body, (i, tt)))) → SegmentSays tag span body.now i r
   segment_says κs i r l = l
 
-  pub ranks_says : (κs : Lfts 3) (positions : Slice) (old left : MutSlice) (r : Filled)
+  pub ranks_says : (κs : Lfts 3) (positions : Slice) (old left : MutSlice) (r : Result ℕ Refusal)
       → ranks.Learnt κs (tag, (span, (body, (positions, (old, tt))))) r (tag, (span, (body, (positions, (left, tt))))) → RanksSays tag span body.now positions.now old.now (r, left.now)
   ranks_says κs positions old left r l = l
 
-  pub walk_says : (κs : Lfts 2) (from : ℕ) (old left : MutSlice) (r : Filled)
+  pub walk_says : (κs : Lfts 2) (from : ℕ) (old left : MutSlice) (r : Result ℕ Refusal)
       → walk.Learnt κs (tag, (span, (body, (from, (old, tt))))) r (tag, (span, (body, (from, (left, tt))))) → WalkSays tag span body.now from old.now (r, left.now)
   walk_says κs from old left r l = l
 
-  pub segments_says : (κs : Lfts 2) (old left : MutBor (List Segment)) (r : Filled)
+  pub segments_says : (κs : Lfts 2) (old left : MutBor (List Segment)) (r : Result ℕ Refusal)
       → segments.Learnt κs (tag, (span, (body, (old, tt)))) r (tag, (span, (body, (left, tt)))) → SegmentsSays tag span body.now old.now (r, left.now)
   segments_says κs old left r l = l
 
-module _ (g : Gatherer) (table left : MutSlice) (r : Gathered) where
+module _ (g : Gatherer) (table left : MutSlice) (r : Result Gatherer Refusal) where
   pub gather_row_says : (κs : Lfts 1) (row : ℕ) → gather-row.Learnt κs (g, (table, (row, tt))) r (g, (left, (row, tt))) → GatherRowSays g table.now row (r, left.now)
   gather_row_says κs row l = l
 
@@ -95,7 +87,7 @@ module _ (g : Gatherer) (table left : MutSlice) (r : Gathered) where
   gather_page_says κs rows l = l
 
 -- of a record that is lent to be changed too
-module _ (g g' : Gatherer) (table left : List ℕ) (a : Added) where
+module _ (g g' : Gatherer) (table left : List ℕ) (a : Result (Unit {0}) Refusal) where
   pub add_row_says : (row : ℕ) → Said (of_row g table row) a g' left → AddRowSays g table row (a, (g', left))
   add_row_says row l = l
 
@@ -103,29 +95,29 @@ module _ (g g' : Gatherer) (table left : List ℕ) (a : Added) where
   add_page_says rows l = l
 
 module _ (limit : ℕ) (work out work' out' : MutSlice) where
-  pub plan_rows_says : (κs : Lfts 4) (start end : ℕ) (rows seeds : Slice) (r : Planned)
+  pub plan_rows_says : (κs : Lfts 4) (start end : ℕ) (rows seeds : Slice) (r : Result Body Refusal)
       → plan-rows.Learnt κs (start, (end, (rows, (seeds, (limit, (work, (out, tt))))))) r (start, (end, (rows, (seeds, (limit, (work', (out', tt)))))))
       → PlanSays start end rows.now seeds.now limit work.now out.now (r, (out'.now, work'.now))
   plan_rows_says κs start end rows seeds r l = l
 
-  pub plan_ordinals_says : (κs : Lfts 3) (count : ℕ) (ordinals : Slice) (r : Planned)
+  pub plan_ordinals_says : (κs : Lfts 3) (count : ℕ) (ordinals : Slice) (r : Result Body Refusal)
       → plan-ordinals.Learnt κs (count, (ordinals, (limit, (work, (out, tt))))) r (count, (ordinals, (limit, (work', (out', tt)))))
       → PlanSays 0 count ordinals.now [] limit work.now out.now (r, (out'.now, work'.now))
   plan_ordinals_says κs count ordinals r l = l
 
-  pub plan_deletions_says : (κs : Lfts 3) (rows : ℕ) (ordinals : Slice) (r : Struck)
+  pub plan_deletions_says : (κs : Lfts 3) (rows : ℕ) (ordinals : Slice) (r : Result (Option Body) Refusal)
       → plan-deletions.Learnt κs (rows, (limit, (ordinals, (work, (out, tt))))) r (rows, (limit, (ordinals, (work', (out', tt)))))
       → PlanDeletionsSays rows limit ordinals.now work.now out.now (r, (out'.now, work'.now))
   plan_deletions_says κs rows ordinals r l = l
 
-module _ (rows limit : ℕ) (s : Section) (body : Slice) where
-  pub check_says : (κs : Lfts 1) (r : Counted) → check-deletions.Learnt κs (rows, (limit, (s, (body, tt)))) r (rows, (limit, (s, (body, tt)))) → CheckSays rows limit s body.now r
+module _ (rows limit : ℕ) (s : Option Coded) (body : Slice) where
+  pub check_says : (κs : Lfts 1) (r : Result ℕ Refusal) → check-deletions.Learnt κs (rows, (limit, (s, (body, tt)))) r (rows, (limit, (s, (body, tt)))) → CheckSays rows limit s body.now r
   check_says κs r l = l
 
-  pub contains_says : (κs : Lfts 1) (ordinal : ℕ) (r : Contained)
+  pub contains_says : (κs : Lfts 1) (ordinal : ℕ) (r : Result Bool Refusal)
       → contains.Learnt κs (rows, (limit, (s, (body, (ordinal, tt))))) r (rows, (limit, (s, (body, (ordinal, tt))))) → ContainsSays rows limit s body.now ordinal r
   contains_says κs ordinal r l = l
 
-  pub walk_deletions_says : (κs : Lfts 2) (from : ℕ) (old left : MutSlice) (r : Filled)
+  pub walk_deletions_says : (κs : Lfts 2) (from : ℕ) (old left : MutSlice) (r : Result ℕ Refusal)
       → walk-deletions.Learnt κs (rows, (limit, (s, (body, (from, (old, tt)))))) r (rows, (limit, (s, (body, (from, (left, tt)))))) → WalkDeletionsSays rows limit s body.now from old.now (r, left.now)
   walk_deletions_says κs from old left r l = l

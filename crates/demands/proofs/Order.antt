@@ -25,8 +25,8 @@ use Rattle.seeds.proofs.Judging.{ordinals_some}
 use Rattle.deletion.specs.Reading as section
 use Rattle.deletion.specs.Striking.{no_deletions, strike_of}
 use Rattle.deletion.proofs.Bound.{planned_short, limit_short}
-use Rattle.deletion.specs.declared.Section.{Section}
-use Rattle.deletion.specs.declared.Section.TheVariants.{Empty, Coded}
+use Rattle.deletion.specs.declared.Coded.{Coded}
+use Rattle.std.specs.Prelude.{Option, None, Some}
 use Rattle.demands.specs.Demands.{first_due, taken, plan_tests}
 use Rattle.demands.proofs.Choices.{by_test, pick-number, pick_not, pick_then, pick_else}
 
@@ -130,21 +130,21 @@ module _ (start end : ℕ) (rows seeds : List ℕ) (limit words room : ℕ) wher
 -- ---- the deletion view: 9, then 8, then 10 in reading; 9, then planning's
 
 module _ (rows limit : ℕ) where
-  pub section_order : (count tag : ℕ) (body : List ℕ) → (section.check_answer rows limit (Coded count tag) body).number
+  pub section_order : (count tag : ℕ) (body : List ℕ) → (section.check_answer rows limit (Some (record { count = count; tag = tag })) body).number
       ≡ first_due ((both (section.block_fits rows limit) (section.stated_fit rows count (length body)), 9) ∷ (accepts tag rows body, 8) ∷ (eqb (length (names tag rows body)) count, 10) ∷ [])
   unfolding section.check_answer section.section_number section.coded_number first_due
   section_order count tag body = answered-number _ _
 
-  pub empty_section_order : (body : List ℕ) → (section.check_answer rows limit Empty body).number ≡ first_due ((section.block_fits rows limit, 9) ∷ [])
+  pub empty_section_order : (body : List ℕ) → (section.check_answer rows limit None body).number ≡ first_due ((section.block_fits rows limit, 9) ∷ [])
   unfolding section.check_answer section.section_number first_due
   empty_section_order body = answered-number _ _
 
   -- the other reading calls answer the same number
-  pub contains-number : (s : Section) (body : List ℕ) (o : ℕ) → (section.contains_answer rows limit s body o).number ≡ (section.check_answer rows limit s body).number
+  pub contains-number : (s : Option Coded) (body : List ℕ) (o : ℕ) → (section.contains_answer rows limit s body o).number ≡ (section.check_answer rows limit s body).number
   unfolding section.contains_answer section.check_answer
   contains-number s body o = answered-number _ _ ∙ sym (answered-number _ _)
 
-  pub walk_deletions_number : (s : Section) (body : List ℕ) (k room : ℕ) → (section.walk_answer rows limit s body k room).number ≡ (section.check_answer rows limit s body).number
+  pub walk_deletions_number : (s : Option Coded) (body : List ℕ) (k room : ℕ) → (section.walk_answer rows limit s body k room).number ≡ (section.check_answer rows limit s body).number
   unfolding section.walk_answer section.check_answer
   walk_deletions_number s body k room = answered-number _ _ ∙ sym (answered-number _ _)
 

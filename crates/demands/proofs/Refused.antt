@@ -29,7 +29,8 @@ use Rattle.planning.proofs.Accepted.{planned, plan_number_lem}
 use Rattle.planning.proofs.Dividing.{early_divided}
 use Rattle.deletion.specs.Reading as section
 use Rattle.deletion.specs.Striking.{no_deletions, strikes, strike_of, strike_out, strike_work}
-use Rattle.deletion.specs.declared.Section.{Section}
+use Rattle.deletion.specs.declared.Coded.{Coded}
+use Rattle.std.specs.Prelude.{Option}
 use Rattle.planning.proofs.Sound.{early_most}
 use Rattle.demands.specs.Demands.{Kept, written, bytes_in, Zeroed}
 use Rattle.demands.proofs.Choices.{by_test, together, pick-both, over_beyond}
@@ -152,7 +153,7 @@ module _ (start end : ℕ) (rows seeds : List ℕ) (limit : ℕ) (work out : Lis
 -- ---- the deletion view
 
 module _ (rows limit : ℕ) where
-  pub walk_deletions_kept : (s : Section) (body : List ℕ) (from : ℕ) (old : List ℕ)
+  pub walk_deletions_kept : (s : Option Coded) (body : List ℕ) (from : ℕ) (old : List ℕ)
       → Kept (written (section.walk_answer rows limit s body from (length old))) (section.walk_answer rows limit s body from (length old)) old (section.walk_left rows limit s body from old)
   unfolding section.walk_answer section.walk_left planning.answered
   walk_deletions_kept s body from old =

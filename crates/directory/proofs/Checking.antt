@@ -1,7 +1,7 @@
 -- Reading the entries of a directory, and what a flag loop over them keeps.
 -- Assumes nothing.
 use mathlib.Core.Path.{◌≡◌, refl, sym, ap}
-use mathlib.Core.Bool.{Bool, true, ◌&&◌, ◌||◌}
+use mathlib.Core.Bool.{Bool, true, false, ◌&&◌}
 use mathlib.Core.List.{List}
 use Prim.Native.Nat.{ℕ, ◌+◌, ◌*◌, ◌<◌, ◌≤◌}
 use native.Mathlib.Nat.{add-zero}
@@ -11,9 +11,9 @@ use lib.Dec.{leb, eqb}
 use lib.ListN.{length, get_or}
 use borrow.Author.Tests.{le-leb}
 use Rattle.fields.specs.Le.{le}
-use Rattle.model.specs.Tests.{all, total}
+use Rattle.model.specs.Tests.{both, all, total}
 use Rattle.model.specs.Lists.{counted}
-use Rattle.model.proofs.Counted.{and_both, or_pick, both_yes}
+use Rattle.model.proofs.Counted.{and_both, both_yes}
 use Rattle.search.specs.Search.{entry}
 use Rattle.directory.specs.Directory.{stated_count, start_at, span_at, count_at, length_at, zero_at, entry_of, rows_before, bytes_before, directory_size, end_before, is_local, fits, segment_fits, segments_fit}
 use Rattle.directory.specs.declared.Segment.{Segment}
@@ -33,18 +33,19 @@ entry_is xs i a b c d e f = rw (a, b, c, d, e, f, byte_is)
 
 -- ---- the code's flags
 
-pub local_is : (t : ℕ) → (eqb t 1 || (eqb t 3 || (eqb t 4 || (eqb t 6 || eqb t 7)))) ≡ is_local t
-unfolding is_local
-local_is t = simp or_pick
-
 pub counted_is : (span n : ℕ) → n ≤ 65535 → (leb 1 n && leb n span) ≡ counted span n
 unfolding counted
 counted_is span n h = rw (le-leb n 65535 h) (simp (and_both, both_yes))
 
+both_more : (a b c : Bool) → both (both a b) c ≡ both a (both b c)
+unfolding both
+both_more true b c = refl
+both_more false b c = refl
+
 pub fits_is : (e : Segment) (nought free rows at span : ℕ) {some local : Bool} → some ≡ counted e.span e.count → local ≡ is_local e.tag
-    → ((leb free e.start && leb (e.start + e.span) span) && ((some && (local && eqb nought 0)) && (eqb e.ordinal rows && eqb e.offset at))) ≡ fits e nought free rows at span
+    → (((leb free e.start && leb (e.start + e.span) span) && ((some && local) && eqb nought 0)) && (eqb e.ordinal rows && eqb e.offset at)) ≡ fits e nought free rows at span
 unfolding fits
-fits_is e nought free rows at span s l = rw (s, l) (simp and_both)
+fits_is e nought free rows at span s l = rw (s, l) (simp (and_both, both_more))
 
 -- ---- the loop over the entries: the flag, where the segment before ends, the rows so far, and where the next payload lies
 pub record Standing (xs : List ℕ) (span n i : ℕ) (ok : Bool) (free rows at : ℕ) : Type 0 where
@@ -79,8 +80,8 @@ standing_next xs span n {i} {free} {rows} {at} {z} {ok} {f} {e} s l q u b d t =
     }
 
 pub standing_end : (xs : List ℕ) (span n : ℕ) {i free rows at count : ℕ} {ok : Bool} → Standing xs span n i ok free rows at → n ≤ i → count ≡ stated_count xs
-    → (ok && (eqb rows count && eqb at (length xs))) ≡ segments_fit xs span n
+    → ((ok && eqb rows count) && eqb at (length xs)) ≡ segments_fit xs span n
 unfolding segments_fit
 standing_end xs span n {i} s g c =
     let e : i ≡ n = omega (arith, s.within) in
-    simp and_both (rw (s.flag, s.sum, s.payload, c, e))
+    simp (and_both, both_more) (rw (s.flag, s.sum, s.payload, c, e))

@@ -91,16 +91,15 @@ module _ (xs : List ℕ) (span : ℕ) where
   pub check_short : length xs < 4 → false ≡ directory_accepts xs span
   check_short l = refuse _ (λ e. omega (arith, (accepts_directory e).room))
 
-  pub check_none : (n : ℕ) → n ≡ stated_segments xs → n ≡ 0 → false ≡ directory_accepts xs span
+  pub check_none : (n : ℕ) → n ≡ stated_segments xs → n < 1 → false ≡ directory_accepts xs span
   check_none n q z = refuse _ (λ e. omega (arith, (accepts_directory e).some))
 
   pub check_room : (n : ℕ) → n ≡ stated_segments xs → length xs < directory_size n → false ≡ directory_accepts xs span
   check_room n q l = refuse _ (λ e. omega (arith, (accepts_directory e).room))
 
-  pub check_segments : {t r : Bool} {n count : ℕ} → n ≡ stated_segments xs → (n ≡ 0 → ⊥) → directory_size n ≤ length xs → t ≡ counted span count → count ≡ stated_count xs
+  pub check_segments : {t r : Bool} {n count : ℕ} → n ≡ stated_segments xs → 1 ≤ n → directory_size n ≤ length xs → t ≡ counted span count → count ≡ stated_count xs
       → r ≡ segments_fit xs span n → (t && r) ≡ directory_accepts xs span
   unfolding directory_accepts
-  check_segments {t} {r} {n} q z l c m f =
+  check_segments {t} {r} {n} q one l c m f =
       let four : 4 ≤ length xs = omega arith in
-      let one : 1 ≤ n = omega (arith, z) in
       rw (and_both, c, m, f, q) (both_pass (le-leb 4 _ four) (both_pass (le-leb 1 _ (rw q at one)) (both_pass (le-leb _ _ (rw q at l)) refl)))

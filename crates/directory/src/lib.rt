@@ -38,6 +38,7 @@ pub fn entry(body: &[u8], i: usize) -> Segment
 }
 
 // The byte called zero of entry i.
+#[tactic(auto, using(crate::proofs::Checking::byte_is))]
 fn nought(body: &[u8], i: usize) -> u8
     requires { 4 + 16 * (i + 1) ≤ length body.now }
     ensures { result ≡ zero_at body.now i }
@@ -50,10 +51,11 @@ pub fn segments(body: &[u8]) -> usize
     requires { 4 ≤ length body.now }
     ensures { (result ≡ stated_segments body.now) × (result < 65536) }
 {
-    fields::read16(body, 2) as usize
+    usize::from(fields::read16(body, 2))
 }
 
 // How many of n segments start at p or before.
+#[tactic(auto, unfolding(fields::specs::Le::width_of))]
 pub fn by_start(body: &[u8], n: usize, p: u32) -> usize
     requires { 4 + 16 * n ≤ length body.now }
     ensures { result ≡ starts_to body.now n p }
@@ -62,36 +64,38 @@ pub fn by_start(body: &[u8], n: usize, p: u32) -> usize
 }
 
 // How many of n segments state at most k rows before them.
+#[tactic(auto, unfolding(fields::specs::Le::width_of))]
 pub fn by_ordinal(body: &[u8], n: usize, k: u16) -> usize
     requires { 4 + 16 * n ≤ length body.now }
     ensures { result ≡ ordinals_to body.now n k }
 {
-    search::upper(body, 12, 16, n, k as u32, false, false)
+    search::upper(body, 12, 16, n, u32::from(k), false, false)
 }
 
 // Whether a tag is a local form's.
+#[tactic(auto, unfolding(crate::specs::Directory::is_local, model::specs::Tests::pick))]
 fn is_local(tag: u8) -> bool
     ensures { result ≡ is_local tag }
 {
-    (tag == 1) | ((tag == 3) | ((tag == 4) | ((tag == 6) | (tag == 7))))
+    matches!(tag, 1 | 3 | 4 | 6 | 7)
 }
 
 // Whether a count is one that the span has room for.
 fn counted(span: u32, count: u16) -> bool
     ensures { result ≡ counted span count }
 {
-    (1 <= count) & (count as u32 <= span)
+    (1 <= count) & (u32::from(count) <= span)
 }
 
 // Whether a segment starts at `free` or after, ends within the span, is well-formed, and states `rows` before it and its payload at `at`.
 fn fits(e: Segment, nought: u8, free: u64, rows: u64, at: usize, span: u32) -> bool
     ensures { result ≡ fits e nought free rows at span }
 {
-    let start = e.start as u64;
-    let inside = (free <= start) & (start + e.span as u64 <= span as u64);
-    let formed = counted(e.span as u32, e.count) & (is_local(e.tag) & (nought == 0));
-    let stated = (e.ordinal as u64 == rows) & (e.offset as usize == at);
-    inside & (formed & stated)
+    let start = u64::from(e.start);
+    let inside = (free <= start) & (start + u64::from(e.span) <= u64::from(span));
+    let formed = counted(u32::from(e.span), e.count) & is_local(e.tag) & (nought == 0);
+    let stated = (u64::from(e.ordinal) == rows) & (usize::from(e.offset) == at);
+    inside & formed & stated
 }
 
 // Whether n segments fit, have the stated rows together, and end where the body ends. No early exit: the sums never pass 2^33.
@@ -99,21 +103,19 @@ fn stand(body: &[u8], n: usize, span: u32) -> bool
     requires { (4 + 16 * n ≤ length body.now) × (n < 65536) }
     ensures { result ≡ segments_fit body.now span n }
 {
-    let count = fields::read16(body, 0) as u64;
+    let count = u64::from(fields::read16(body, 0));
     let mut ok = true;
     let mut free: u64 = 0;
     let mut rows: u64 = 0;
     let mut at = 4 + 16 * n;
-    let mut i = 0;
-    while i < n {
+    for i in 0..n {
         let e = entry(body, i);
-        ok = ok & fits(e, nought(body, i), free, rows, at, span);
-        free = e.start as u64 + e.span as u64;
-        rows += e.count as u64;
-        at += e.length as usize;
-        i += 1;
+        ok &= fits(e, nought(body, i), free, rows, at, span);
+        free = u64::from(e.start) + u64::from(e.span);
+        rows += u64::from(e.count);
+        at += usize::from(e.length);
     }
-    ok & ((rows == count) & (at == body.len()))
+    ok & (rows == count) & (at == body.len())
 }
 
 // Whether the directory is accepted, for any bytes and any span.
@@ -124,11 +126,7 @@ pub fn check(body: &[u8], span: u32) -> bool
         return false;
     }
     let n = segments(body);
-    if n == 0 {
-        return false;
-    }
-    if body.len() < 4 + 16 * n {
-        return false;
-    }
-    counted(span, fields::read16(body, 0)) & stand(body, n, span)
+    1 <= n
+        && 4 + 16 * n <= body.len()
+        && counted(span, fields::read16(body, 0)) & stand(body, n, span)
 }

@@ -3,7 +3,7 @@
 use mathlib.Core.Path.{◌≡◌, refl, ◌∙◌}
 use mathlib.Core.Bool.{true, false}
 use mathlib.Core.List.{List}
-use Prim.Native.Nat.{ℕ, ◌+◌, ◌-◌, ◌/◌, ◌%◌, ◌<◌, ◌≤◌}
+use Prim.Native.Nat.{ℕ, ◌+◌, ◌-◌, ◌/◌, ◌%◌, ◌<◌, ◌≤◌, min}
 use native.Mathlib.Omega.{arith}
 use lib.Dec.{eqb}
 use lib.ListN.{length, get_or}
@@ -23,21 +23,9 @@ spaced r = record { apart = apart r; few = omega (arith, rising_room (omega arit
 -- ---- rows without a break
 
 module _ {rows : List ℕ} where
-  pub unbroken_one : {a : ℕ} → a < length rows → Unbroken rows a a
-  unbroken_one h = record { order = omega arith; inside = h; so = omega arith }
-
-  pub unbroken_test : {a b : ℕ} → Spaced rows → a ≤ b → b < length rows → get_or rows b 0 - get_or rows a 0 ≡ b - a → Unbroken rows a b
-  unbroken_test {a} {b} s h l e = record { order = h; inside = l; so = omega (arith, s.apart a b h l) }
-
-  pub unbroken_joined : {a b c : ℕ} → Unbroken rows a b → Unbroken rows b c → Unbroken rows a c
-  unbroken_joined u v = record { order = omega arith; inside = v.inside; so = omega arith }
-
   -- a row between, and one behind it
   unbroken_at : {a b : ℕ} → Spaced rows → Unbroken rows a b → (j m : ℕ) → a ≤ j → j + m ≤ b → get_or rows (j + m) 0 ≡ get_or rows j 0 + m
   unbroken_at {a} {b} s u j m h l = omega (arith, s.apart a j h (omega arith), s.apart j (j + m) (omega arith) (omega arith), s.apart (j + m) b l u.inside)
-
-  pub sight_found : {a b c : ℕ} → Unbroken rows a b → c ≡ b + 1 → Sight rows (record { start = a; stop = c })
-  sight_found {a} {b} {c} u e = let f : c - 1 ≡ b = omega arith in record { order = omega arith; inside = omega arith; run = λ h. rw f u }
 
   pub sight_none : {a : ℕ} → a ≤ length rows → Sight rows (record { start = a; stop = a })
   sight_none h = record { order = omega arith; inside = h; run = λ l. absurd (omega arith) }
@@ -56,10 +44,6 @@ module _ {xs : List ℕ} {k stop : ℕ} where
   pub onward_upto : {from upto : ℕ} {w r : Word} → Onward xs k from stop w r → (r.next < upto → eqb (get_or xs r.next 0 / 64) k ≡ false) → Onward xs k upto stop w r
   onward_upto o f = record { kept = o.kept; within = o.within; out = f }
 
-  -- single rows, and those of the run behind them
-  pub onward_then : {start upto : ℕ} {w v r : Word} → Onward xs k start stop w v → Onward xs k upto stop v r → Onward xs k upto stop w r
-  onward_then o n = record { kept = λ i c s. n.kept i c (o.kept i c s); within = n.within; out = n.out }
-
   -- a row of another word before the end says that the word is through
   pub onward_end : {b i : ℕ} {w r : Word} → Cut xs k i → Rising 0 b xs → Wording xs k i w → Onward xs k stop stop w r → r.next < stop → stop ≤ length xs → Worded xs k i r
   onward_end c r s o h l = wording_stop c (o.kept _ c s) r (omega arith, refl) (o.out h)
@@ -70,6 +54,9 @@ pub record Part (stop j q n : ℕ) : Type 0 where
   pub fits : q % 64 + n ≤ 64
   pub inside : j + n ≤ stop
   pub full : j + n < stop → 64 ≤ q % 64 + n
+
+pub part_min : (stop j q : ℕ) {n : ℕ} → j < stop → n ≡ min (64 - q % 64) (stop - j) → Part stop j q n
+part_min stop j q h e = record { some = omega arith; fits = omega arith; inside = omega arith; full = λ l. omega arith }
 
 -- a position behind another, by their rows
 behind : (base x y q m : ℕ) → q ≡ x - base → base ≤ x → y ≡ x + m → y - base ≡ q + m

@@ -3,7 +3,7 @@
 use mathlib.Core.Path.{◌≡◌, refl, sym, ap, ◌∙◌}
 use mathlib.Core.List.{List, [], ◌∷◌, ◌++◌, append-nil}
 use Prim.Native.Nat.{ℕ, suc, ◌+◌, ◌-◌, ◌*◌, ◌%◌, ◌^◌, ◌<◌, ◌≤◌}
-use native.Mathlib.Nat.{add-zero, sub-zero}
+use native.Mathlib.Nat.{add-zero}
 use native.Mathlib.Omega.{arith}
 use lib.ListN.{length, get_or, drop, length-append, drop_of_length-le}
 use lib.Seq.{drop-cons}
@@ -15,7 +15,7 @@ use Rattle.model.proofs.Ranges.{length-range}
 use Rattle.lists.specs.Lists.{list_layout}
 use Rattle.lists.proofs.Bytes.{length_layout}
 use Rattle.runs.specs.Runs.{runs_bytes}
-use Rattle.emit.proofs.Emitting.{Emitting, emitting_start, emitting_next, emitting_room, emitting_end, written_more, written-put}
+use Rattle.emit.proofs.Emitting.{Emitting, emitting_next, emitting_room, emitting_end, written_more, written-put}
 use Rattle.emit.specs.Written.{Written}
 
 -- ---- a field has the lowest digits of its number
@@ -36,9 +36,6 @@ pub record Listing (w start size : ℕ) (before : List ℕ) (at p i : ℕ) (out 
   pub so : Emitting (list_layout w (range start size)) before at p (list_layout w (range (start + i) (size - i))) out
 
 module _ (w start size : ℕ) (before : List ℕ) (at : ℕ) where
-  pub listing_start : Listing w start size before at at 0 before
-  listing_start = record { upto = omega arith; so = rw (add-zero, sub-zero) (emitting_start (list_layout w (range start size)) before at) }
-
   module _ {p i : ℕ} {out : List ℕ} (s : Listing w start size before at p i out) (h : i < size) where
     step : list_layout w (range (start + i) (size - i)) ≡ digits w (start + i) ++ list_layout w (range (start + (i + 1)) (size - (i + 1)))
     unfolding range list_layout
@@ -78,9 +75,6 @@ pub record Items (w : ℕ) (xs before : List ℕ) (at p i : ℕ) (out : List ℕ
   pub so : Emitting (list_layout w xs) before at p (list_layout w (drop i xs)) out
 
 module _ (w : ℕ) (xs before : List ℕ) (at : ℕ) where
-  pub items_start : Items w xs before at at 0 before
-  items_start = record { upto = omega arith; so = emitting_start (list_layout w xs) before at }
-
   module _ {p i : ℕ} {out : List ℕ} (s : Items w xs before at p i out) (h : i < length xs) where
     item : list_layout w (drop i xs) ≡ digits w (get_or xs i 0) ++ list_layout w (drop (i + 1) xs)
     unfolding list_layout

@@ -13,22 +13,22 @@ use lib.Bits.{bit_or}
 use lib.Dec.{eqb}
 use lib.ListN.{length, get_or, take, length-append}
 use lib.Pow.{pow_pos, pow_mono, pow-add, shr_lt, high, low}
-use lib.Seq.{sets, length-sets, take_all, take-suc}
+use lib.Seq.{sets, take_all, take-suc}
 use borrow.Author.Tests.{eq-eqb, ne_eqb, eqb-true}
 use Rattle.fields.specs.Le.{digits, put}
-use Rattle.fields.proofs.Laws.{length_digits, length-put, put_split}
+use Rattle.fields.proofs.Laws.{length_digits, put_split}
 use Rattle.fields.proofs.Binary.{pow_bytes}
 use Rattle.model.specs.Tests.{flat}
 use Rattle.model.specs.Lists.{Rising, below, range}
 use Rattle.model.proofs.Ranges.{range-append}
 use Rattle.model.proofs.Sets.{sets-append}
-use Rattle.model.proofs.Tests.{either, order, never, strictly, same_or_not, pick_true, pick_false}
+use Rattle.model.proofs.Tests.{order, never, strictly, same_or_not, pick_true, pick_false}
 use Rattle.model.proofs.Rising.{rising_below, rising_before, rising_apart}
 use Rattle.model.proofs.Standing.{below_cut}
 use Rattle.word.specs.Bits.{num_from}
 use Rattle.word.proofs.Numbers.{num_lt}
 use Rattle.word.proofs.Masks.{num_append, range_or, range_lt, range_up}
-use Rattle.bitmap.specs.Body.{words_of, groups_of, bitmap_length, bitmap_layout}
+use Rattle.bitmap.specs.Body.{words_of, groups_of, bitmap_layout}
 use Rattle.emit.specs.declared.Word.{Word}
 use Rattle.emit.specs.Written.{Written}
 use Rattle.emit.specs.Words.{with_digit, with_run, counted_at, Cut, Worded, Wording}
@@ -67,9 +67,6 @@ take-stretch xs j q (suc n) h e =
 -- ---- on the way through the rows of one word
 
 module _ {xs : List ℕ} {k i : ℕ} (c : Cut xs k i) where
-  pub wording_start : Wording xs k i (record { bits = 0; next = i })
-  wording_start = record { begun = omega arith; upto = c.upto; under = λ m h. omega (arith, c.under m h); small = pow_pos 64; so = omega arith }
-
   module _ {w : Word} (s : Wording xs k i w) where
     through : ((m : ℕ) → w.next ≤ m → m < length xs → 64 * (k + 1) ≤ get_or xs m 0) → Worded xs k i w
     through o =
@@ -135,10 +132,6 @@ heads_more : (xs before : List ℕ) (at g i : ℕ) → below xs (256 * g) ≡ i 
 unfolding put flat
 heads_more xs before at g i n = rw n (sym (sets-append (heads xs g) (digits 2 i) before at ∙ ap (λ (m : ℕ). sets (sets before at (heads xs g)) (at + m) (digits 2 i)) (length_heads xs g)))
 
-pub length-counted : (xs : List ℕ) (at k rows : ℕ) → length (counted_at xs at k rows) ≡ length xs
-unfolding counted_at
-length-counted xs at k rows = ⊎_elim (λ e. ap length (pick_true _ _ e) ∙ length-put 2 xs (at + 2 * (k / 4)) rows) (λ e. ap length (pick_false _ _ e)) (either (eqb (k % 4) 0))
-
 abbrev standing : ℕ → List ℕ → List ℕ → ℕ → ℕ → ℕ → ℕ → List ℕ
 standing span xs before at k groups i = put (8 * k) (sets before at (heads xs groups)) (at + 2 * groups_of span) (num_from 0 (take i xs))
 
@@ -154,12 +147,6 @@ module _ (span : ℕ) (xs before : List ℕ) (at : ℕ) where
   mapping_start e = record { within = omega arith; place = omega arith; cut = cut_start xs; so = refl }
 
   module _ {k i p : ℕ} {out : List ℕ} (s : Mapping span xs before at k i p out) where
-    pub mapping_length : length out ≡ length before
-    mapping_length = ap length s.so ∙ rw (length-put) (length-sets before at (heads xs ((k + 3) / 4)))
-
-    pub mapping_room : k < words_of span → at + bitmap_length span ≤ length before → (at + 2 * (k / 4) + 2 ≤ length out) × (p + 8 ≤ length out)
-    mapping_room h r = (omega (arith, mapping_length), omega (arith, mapping_length, s.place))
-
     -- the rows before the word k, where it begins a group
     begins : k < words_of span → k % 4 ≡ 0 → put 2 out (at + 2 * (k / 4)) i ≡ standing span xs before at k ((k + 1 + 3) / 4) i
     begins h z =

@@ -1,9 +1,9 @@
 // Bodies from rows, written into a lent slice. What writes a layout, or a part of one, answers the place behind it.
-// Here is what rows of either width share; the loops over u64 rows and over u16 ordinals are crates of their own, `emit_rows` and `emit_ordinals`.
+// Here is what asks nothing of how rows are lent; the loops over rows of either width are the crate `emit_rows`.
 
 #![tactic(auto)]
 
-ghost use Rattle.std.specs.Prelude.{◌≡◌, [], ◌∷◌, ◌+◌, ◌*◌, ◌/◌, ◌%◌, ◌≤◌, min, eqb, length};
+ghost use Rattle.std.specs.Prelude.{◌≡◌, [], ◌∷◌, ◌+◌, ◌*◌, ◌/◌, ◌%◌, ◌≤◌, eqb, length};
 ghost use Rattle.fields.specs.Le.{put, width_of};
 ghost use Rattle.model.specs.Lists.{range, run};
 ghost use Rattle.lists.specs.Lists.{list_layout};
@@ -32,11 +32,9 @@ pub fn list_run(out: &mut [u8], at: usize, start: u32, size: u32, wide: bool) ->
 {
     let w = fields::width(wide);
     let mut p = at;
-    let mut i = 0;
-    while i < size {
+    for i in 0..size {
         put_field(out, p, start + i, wide);
         p += w;
-        i += 1;
     }
     p
 }
@@ -97,12 +95,6 @@ pub fn with_run(word: Word, position: u32, n: usize) -> Word
     }
 }
 
-pub fn least(a: usize, b: usize) -> usize
-    ensures { result ≡ min a b }
-{
-    if a < b { a } else { b }
-}
-
 // Whether a position stands in the word k.
 pub fn in_word(position: u32, k: usize) -> bool
     ensures { result ≡ eqb (position / 64) k }
@@ -113,14 +105,14 @@ pub fn in_word(position: u32, k: usize) -> bool
 pub fn words_of(span: u32) -> usize
     ensures { result ≡ words_of span }
 {
-    (span as usize + 63) / 64
+    (span as usize).div_ceil(64)
 }
 
 pub fn groups_of(words: usize) -> usize
     requires { words ≤ 67108864 }
     ensures { result ≡ (words + 3) / 4 }
 {
-    (words + 3) / 4
+    words.div_ceil(4)
 }
 
 // Each fourth word begins a group: the rows before it go in front of the words.

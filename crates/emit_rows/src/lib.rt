@@ -1,8 +1,8 @@
-// Bodies from u64 rows, counted from base: the rows of a whole set, or of one segment as a part of its own.
+// Bodies from rows of either width, counted from base: the rows of a whole set, or of one segment as a part of its own.
 
 #![tactic(auto)]
 
-ghost use Rattle.std.specs.Prelude.{◌≡◌, true, ◌+◌, ◌-◌, ◌*◌, ◌<◌, ◌≤◌, length};
+ghost use Rattle.std.specs.Prelude.{◌≡◌, true, ◌+◌, ◌-◌, ◌*◌, ◌<◌, ◌≤◌, length, map};
 ghost use Rattle.fields.specs.Le.{width_of};
 ghost use Rattle.model.specs.Lists.{Rising, positions_of};
 ghost use Rattle.lists.specs.Lists.{list_layout};
@@ -13,28 +13,27 @@ ghost use Rattle.emit.specs.Written.{Written};
 ghost use Rattle.emit.specs.Words.{Cut, Onward, Sight, Spaced, Unbroken, Worded};
 
 use emit::{
-    Outlook, Passed, Word, groups_of, in_word, least, list_run, put_before, put_field, run_entry,
+    Outlook, Passed, Word, groups_of, in_word, list_run, put_before, put_field, run_entry,
     with_digit, with_run, words_of,
 };
+use model::{Row, row_at};
 
-pub fn list_rows(out: &mut [u8], at: usize, rows: &[u64], base: u64, wide: bool) -> usize
-    requires { (Rising base (base + 4294967295) rows.now) × (at + length (list_layout (width_of wide) (positions_of base rows.now)) ≤ length out.old) }
-    ensures { Written (list_layout (width_of wide) (positions_of base rows.now)) at out.old out.new result }
+pub fn list_rows<R: Row>(out: &mut [u8], at: usize, rows: &[R], base: u64, wide: bool) -> usize
+    requires { (Rising base (base + 4294967295) (map R.number rows.now)) × (at + length (list_layout (width_of wide) (positions_of base (map R.number rows.now))) ≤ length out.old) }
+    ensures { Written (list_layout (width_of wide) (positions_of base (map R.number rows.now))) at out.old out.new result }
 {
     let w = fields::width(wide);
     let mut p = at;
-    let mut i = 0;
-    while i < rows.len() {
-        put_field(out, p, stats::position(rows[i], base), wide);
+    for row in rows {
+        put_field(out, p, stats::position(row.wide(), base), wide);
         p += w;
-        i += 1;
     }
     p
 }
 
-pub fn runs_rows(out: &mut [u8], at: usize, rows: &[u64], base: u64, wide: bool) -> usize
-    requires { (Rising base (base + 4294967295) rows.now) × (length rows.now ≤ 65535) × (at + length (runs_layout (width_of wide) (positions_of base rows.now)) ≤ length out.old) }
-    ensures { Written (runs_layout (width_of wide) (positions_of base rows.now)) at out.old out.new result }
+pub fn runs_rows<R: Row>(out: &mut [u8], at: usize, rows: &[R], base: u64, wide: bool) -> usize
+    requires { (Rising base (base + 4294967295) (map R.number rows.now)) × (length rows.now ≤ 65535) × (at + length (runs_layout (width_of wide) (positions_of base (map R.number rows.now))) ≤ length out.old) }
+    ensures { Written (runs_layout (width_of wide) (positions_of base (map R.number rows.now))) at out.old out.new result }
 {
     let mut p = at;
     let mut i = 0;
@@ -43,7 +42,7 @@ pub fn runs_rows(out: &mut [u8], at: usize, rows: &[u64], base: u64, wide: bool)
         p = run_entry(
             out,
             p,
-            stats::position(rows[i], base),
+            stats::position(row_at(rows, i), base),
             (j - i) as u16,
             i as u16,
             wide,
@@ -54,16 +53,16 @@ pub fn runs_rows(out: &mut [u8], at: usize, rows: &[u64], base: u64, wide: bool)
 }
 
 // The holes before each run, and behind the last up to the span.
-pub fn missing_rows(out: &mut [u8], at: usize, rows: &[u64], base: u64, span: u32) -> usize
-    requires { (Rising base (base + span) rows.now) × (at + length (missing_layout span (positions_of base rows.now)) ≤ length out.old) }
-    ensures { Written (missing_layout span (positions_of base rows.now)) at out.old out.new result }
+pub fn missing_rows<R: Row>(out: &mut [u8], at: usize, rows: &[R], base: u64, span: u32) -> usize
+    requires { (Rising base (base + span) (map R.number rows.now)) × (at + length (missing_layout span (positions_of base (map R.number rows.now))) ≤ length out.old) }
+    ensures { Written (missing_layout span (positions_of base (map R.number rows.now))) at out.old out.new result }
 {
     let mut p = at;
     let mut from: u32 = 0;
     let mut i = 0;
     while i < rows.len() {
         let j = stats::run_end(rows, i);
-        let first = stats::position(rows[i], base);
+        let first = stats::position(row_at(rows, i), base);
         p = list_run(out, p, from, first - from, false);
         from = first + (j - i) as u32;
         i = j;
@@ -73,21 +72,18 @@ pub fn missing_rows(out: &mut [u8], at: usize, rows: &[u64], base: u64, span: u3
 
 // Whether there is a row of index last, and those from index first to it stand one behind the other. Since rows rise, the two at
 // the ends say so of all between.
-fn unbroken(rows: &[u64], first: usize, last: usize) -> bool
-    requires { (Spaced rows.now) × (first ≤ last) }
-    ensures { result ≡ true → Unbroken rows.now first last }
+fn unbroken<R: Row>(rows: &[R], first: usize, last: usize) -> bool
+    requires { (Spaced (map R.number rows.now)) × (first ≤ last) }
+    ensures { result ≡ true → Unbroken (map R.number rows.now) first last }
 {
-    if last < rows.len() {
-        return (rows[last] - rows[first]) as usize == last - first;
-    }
-    false
+    last < rows.len() && (row_at(rows, last) - row_at(rows, first)) as usize == last - first
 }
 
 // The index of the last row of the run that the row of index at stands in. A step is taken while the run has rows for it, and then
 // halved: a test for 32 rows of a long run, and few at its end.
-fn run_last(rows: &[u64], at: usize) -> usize
-    requires { (Spaced rows.now) × (at < length rows.now) }
-    ensures { Unbroken rows.now at result }
+fn run_last<R: Row>(rows: &[R], at: usize) -> usize
+    requires { (Spaced (map R.number rows.now)) × (at < length rows.now) }
+    ensures { Unbroken (map R.number rows.now) at result }
 {
     let mut last = at;
     let mut step = 32;
@@ -95,28 +91,25 @@ fn run_last(rows: &[u64], at: usize) -> usize
         if unbroken(rows, last, last + step) {
             last += step;
         } else {
-            step = step / 2;
+            step /= 2;
         }
     }
     last
 }
 
 // Whether the run that the row of index at stands in has a step of rows before it, none of which lies before index from.
-fn reaches(rows: &[u64], from: usize, at: usize, step: usize) -> bool
-    requires { (Spaced rows.now) × (from ≤ length rows.now) × (step ≤ 16) }
-    ensures { result ≡ true → (step ≤ at) × Unbroken rows.now (at - step) at }
+fn reaches<R: Row>(rows: &[R], from: usize, at: usize, step: usize) -> bool
+    requires { (Spaced (map R.number rows.now)) × (from ≤ length rows.now) × (step ≤ 16) }
+    ensures { result ≡ true → (step ≤ at) × Unbroken (map R.number rows.now) (at - step) at }
 {
-    if from + step <= at {
-        return unbroken(rows, at - step, at);
-    }
-    false
+    from + step <= at && unbroken(rows, at - step, at)
 }
 
 // The index of the first row of the run that the row of index at stands in, or from where the run begins before that. The steps are
 // for fewer than 32 rows, as between two blocks of a look ahead.
-fn run_first(rows: &[u64], from: usize, at: usize) -> usize
-    requires { (Spaced rows.now) × (from ≤ at) × (at < length rows.now) }
-    ensures { Unbroken rows.now result at }
+fn run_first<R: Row>(rows: &[R], from: usize, at: usize) -> usize
+    requires { (Spaced (map R.number rows.now)) × (from ≤ at) × (at < length rows.now) }
+    ensures { Unbroken (map R.number rows.now) result at }
 {
     let mut first = at;
     let mut step = 16;
@@ -124,7 +117,7 @@ fn run_first(rows: &[u64], from: usize, at: usize) -> usize
         if reaches(rows, from, first, step) {
             first -= step;
         } else {
-            step = step / 2;
+            step /= 2;
         }
     }
     first
@@ -133,9 +126,9 @@ fn run_first(rows: &[u64], from: usize, at: usize) -> usize
 // A look ahead from the row of index from on: for a block of 32 rows that stand one behind the other there, 32 rows behind it, or 64.
 // A run of 63 rows or more that begins at one of the next 64 rows has all rows of one of these blocks, wherever it begins, so that
 // none is missed. The run of the first block found is ahead, whole. If none is found, the 64 rows go in one by one.
-fn look(rows: &[u64], from: usize) -> Outlook
-    requires { (Spaced rows.now) × (from < length rows.now) }
-    ensures { (Sight rows.now result) × (from < result.stop) }
+fn look<R: Row>(rows: &[R], from: usize) -> Outlook
+    requires { (Spaced (map R.number rows.now)) × (from < length rows.now) }
+    ensures { (Sight (map R.number rows.now) result) × (from < result.stop) }
 {
     let mut at = from;
     while at < from + 96 {
@@ -143,13 +136,13 @@ fn look(rows: &[u64], from: usize) -> Outlook
             let start = run_first(rows, from, at);
             let last = run_last(rows, at + 31);
             return Outlook {
-                start: start,
+                start,
                 stop: last + 1,
             };
         }
         at += 32;
     }
-    let none = least(from + 64, rows.len());
+    let none = (from + 64).min(rows.len());
     Outlook {
         start: none,
         stop: none,
@@ -159,9 +152,9 @@ fn look(rows: &[u64], from: usize) -> Outlook
 // What is known of the rows ahead of the one of index next: as before while it is in a run or before one. If no run is in sight, the
 // next look is due when fewer than 64 rows are left of those that were looked at: a word has no more. What a look answers lies in
 // memory and is copied from there, so that what is known stays in registers where no look is due.
-fn ahead_of(rows: &[u64], next: usize, ahead: Outlook) -> Outlook
-    requires { (Spaced rows.now) × (Sight rows.now ahead) × (next ≤ ahead.stop) × (next < length rows.now) }
-    ensures { (Sight rows.now result) × (next < result.stop) }
+fn ahead_of<R: Row>(rows: &[R], next: usize, ahead: Outlook) -> Outlook
+    requires { (Spaced (map R.number rows.now)) × (Sight (map R.number rows.now) ahead) × (next ≤ ahead.stop) × (next < length rows.now) }
+    ensures { (Sight (map R.number rows.now) result) × (next < result.stop) }
 {
     if ahead.stop <= next {
         let seen = look(rows, next);
@@ -170,13 +163,7 @@ fn ahead_of(rows: &[u64], next: usize, ahead: Outlook) -> Outlook
             stop: seen.stop,
         };
     }
-    if ahead.start < ahead.stop {
-        return ahead;
-    }
-    if next + 64 <= ahead.stop {
-        return ahead;
-    }
-    if rows.len() <= ahead.stop {
+    if ahead.start < ahead.stop || next + 64 <= ahead.stop || rows.len() <= ahead.stop {
         return ahead;
     }
     let seen = look(rows, ahead.stop);
@@ -187,50 +174,45 @@ fn ahead_of(rows: &[u64], next: usize, ahead: Outlook) -> Outlook
 }
 
 // The word k with its rows before the run ahead, digit by digit.
-fn single_rows(rows: &[u64], word: Word, ahead: Outlook, base: u64, k: usize) -> Word
-    requires { (Rising base (base + 4294967295) rows.now) × (Sight rows.now ahead) × (word.next ≤ ahead.stop) }
-    ensures { Onward (positions_of base rows.now) k ahead.start ahead.stop word result }
+fn single_rows<R: Row>(rows: &[R], word: Word, ahead: Outlook, base: u64, k: usize) -> Word
+    requires { (Rising base (base + 4294967295) (map R.number rows.now)) × (Sight (map R.number rows.now) ahead) × (word.next ≤ ahead.stop) }
+    ensures { Onward (positions_of base (map R.number rows.now)) k ahead.start ahead.stop word result }
 {
     let mut bits = word.bits;
-    let mut j = word.next;
-    while j < ahead.start {
-        let q = stats::position(rows[j], base);
+    for j in word.next..ahead.start {
+        let q = stats::position(row_at(rows, j), base);
         if !in_word(q, k) {
-            return Word {
-                bits: bits,
-                next: j,
-            };
+            return Word { bits, next: j };
         }
         bits = with_digit(bits, q);
-        j += 1;
     }
     Word {
-        bits: bits,
-        next: j,
+        bits,
+        next: word.next.max(ahead.start),
     }
 }
 
 // The word k with its rows of the run ahead, by one mask: as many as the word has room for, or the run has.
-fn run_rows(rows: &[u64], word: Word, ahead: Outlook, base: u64, k: usize) -> Word
-    requires { (Rising base (base + 4294967295) rows.now) × (Sight rows.now ahead) × (ahead.start ≤ word.next) × (word.next ≤ ahead.stop) }
-    ensures { Onward (positions_of base rows.now) k ahead.stop ahead.stop word result }
+fn run_rows<R: Row>(rows: &[R], word: Word, ahead: Outlook, base: u64, k: usize) -> Word
+    requires { (Rising base (base + 4294967295) (map R.number rows.now)) × (Sight (map R.number rows.now) ahead) × (ahead.start ≤ word.next) × (word.next ≤ ahead.stop) }
+    ensures { Onward (positions_of base (map R.number rows.now)) k ahead.stop ahead.stop word result }
 {
     let j = word.next;
     if ahead.stop <= j {
         return word;
     }
-    let q = stats::position(rows[j], base);
+    let q = stats::position(row_at(rows, j), base);
     if !in_word(q, k) {
         return word;
     }
     let room = 64 - (q % 64) as usize;
-    with_run(word, q, least(room, ahead.stop - j))
+    with_run(word, q, room.min(ahead.stop - j))
 }
 
 // The word k with its rows up to the end of the run ahead.
-fn more_rows(rows: &[u64], word: Word, ahead: Outlook, base: u64, k: usize) -> Word
-    requires { (Rising base (base + 4294967295) rows.now) × (Sight rows.now ahead) × (word.next ≤ ahead.stop) }
-    ensures { Onward (positions_of base rows.now) k ahead.stop ahead.stop word result }
+fn more_rows<R: Row>(rows: &[R], word: Word, ahead: Outlook, base: u64, k: usize) -> Word
+    requires { (Rising base (base + 4294967295) (map R.number rows.now)) × (Sight (map R.number rows.now) ahead) × (word.next ≤ ahead.stop) }
+    ensures { Onward (positions_of base (map R.number rows.now)) k ahead.stop ahead.stop word result }
 {
     let single = single_rows(rows, word, ahead, base, k);
     if single.next < ahead.start {
@@ -241,9 +223,9 @@ fn more_rows(rows: &[u64], word: Word, ahead: Outlook, base: u64, k: usize) -> W
 
 // The digits of the word k, whose first row is that of index i: up to the end of one run after the other, until a row stands in
 // another word.
-fn word_rows(rows: &[u64], i: usize, seen: Outlook, base: u64, k: usize) -> Passed
-    requires { (Rising base (base + 4294967295) rows.now) × (Cut (positions_of base rows.now) k i) × (Sight rows.now seen) × (i ≤ seen.stop) }
-    ensures { (Worded (positions_of base rows.now) k i result.word) × (Sight rows.now result.ahead) × (result.word.next ≤ result.ahead.stop) }
+fn word_rows<R: Row>(rows: &[R], i: usize, seen: Outlook, base: u64, k: usize) -> Passed
+    requires { (Rising base (base + 4294967295) (map R.number rows.now)) × (Cut (positions_of base (map R.number rows.now)) k i) × (Sight (map R.number rows.now) seen) × (i ≤ seen.stop) }
+    ensures { (Worded (positions_of base (map R.number rows.now)) k i result.word) × (Sight (map R.number rows.now) result.ahead) × (result.word.next ≤ result.ahead.stop) }
 {
     let mut ahead = seen;
     let mut word = Word { bits: 0, next: i };
@@ -251,28 +233,21 @@ fn word_rows(rows: &[u64], i: usize, seen: Outlook, base: u64, k: usize) -> Pass
         ahead = ahead_of(rows, word.next, ahead);
         word = more_rows(rows, word, ahead, base, k);
         if word.next < ahead.stop {
-            return Passed {
-                word: word,
-                ahead: ahead,
-            };
+            return Passed { word, ahead };
         }
     }
-    Passed {
-        word: word,
-        ahead: ahead,
-    }
+    Passed { word, ahead }
 }
 
-pub fn bitmap_rows(out: &mut [u8], at: usize, rows: &[u64], base: u64, span: u32) -> usize
-    requires { (Rising base (base + span) rows.now) × (at + bitmap_length span ≤ length out.old) }
-    ensures { Written (bitmap_layout span (positions_of base rows.now)) at out.old out.new result }
+pub fn bitmap_rows<R: Row>(out: &mut [u8], at: usize, rows: &[R], base: u64, span: u32) -> usize
+    requires { (Rising base (base + span) (map R.number rows.now)) × (at + bitmap_length span ≤ length out.old) }
+    ensures { Written (bitmap_layout span (positions_of base (map R.number rows.now))) at out.old out.new result }
 {
     let words = words_of(span);
     let mut p = at + 2 * groups_of(words);
     let mut i = 0;
     let mut ahead = Outlook { start: 0, stop: 0 };
-    let mut k = 0;
-    while k < words {
+    for k in 0..words {
         let passed = word_rows(rows, i, ahead, base, k);
         let word = passed.word;
         put_before(out, at, k, i);
@@ -280,7 +255,6 @@ pub fn bitmap_rows(out: &mut [u8], at: usize, rows: &[u64], base: u64, span: u32
         i = word.next;
         ahead = passed.ahead;
         p += 8;
-        k += 1;
     }
     p
 }

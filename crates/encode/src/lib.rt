@@ -2,7 +2,7 @@
 
 #![tactic(auto)]
 
-ghost use Rattle.std.specs.Prelude.{◌≡◌, ◌+◌, ◌-◌, ◌<◌, ◌≤◌, ltb, length};
+ghost use Rattle.std.specs.Prelude.{◌≡◌, ◌+◌, ◌-◌, ◌<◌, ◌≤◌, ltb, length, map};
 ghost use Rattle.model.specs.Tests.{pick};
 ghost use Rattle.model.specs.Lists.{Rising, runs_of, positions_of};
 ghost use Rattle.stats.specs.Rows.{Covered};
@@ -12,6 +12,7 @@ ghost use Rattle.emit.specs.Written.{Written};
 ghost use Rattle.encode.specs.Headers.{plain_header, bitmap_header, missing_header, entry_bytes};
 
 use directory::Segment;
+use model::{Row, row_at};
 
 // ---- headers, and an entry of the directory
 
@@ -26,10 +27,7 @@ fn plain_header(out: &mut [u8], at: usize, tag: u8, count: u16, runs: u16) -> us
     requires { at + length (plain_header tag count runs) ≤ length out.old }
     ensures { Written (plain_header tag count runs) at out.old out.new result }
 {
-    if tag < 4 {
-        return at;
-    }
-    if 7 < tag {
+    if tag < 4 || 7 < tag {
         return at;
     }
     let second = beside(tag, runs);
@@ -70,42 +68,46 @@ pub fn put_entry(out: &mut [u8], at: usize, e: Segment) -> usize
     fields::put16(out, at + 8, e.ordinal);
     fields::put16(out, at + 10, e.offset);
     fields::put16(out, at + 12, e.length);
-    fields::put16(out, at + 14, e.tag as u16);
+    fields::put16(out, at + 14, u16::from(e.tag));
     at + 16
 }
 
-// ---- u64 rows
+// ---- rows of either width
 
 // A local layout by its tag, of rows counted from base.
-pub fn local_rows(out: &mut [u8], at: usize, rows: &[u64], base: u64, tag: u8, span: u32) -> usize
-    requires { (Rising base (base + span) rows.now) × (length rows.now ≤ 65535) × (at + length (local_layout tag span (positions_of base rows.now)) ≤ length out.old) }
-    ensures { Written (local_layout tag span (positions_of base rows.now)) at out.old out.new result }
+pub fn local_rows<R: Row>(
+    out: &mut [u8],
+    at: usize,
+    rows: &[R],
+    base: u64,
+    tag: u8,
+    span: u32,
+) -> usize
+    requires { (Rising base (base + span) (map R.number rows.now)) × (length rows.now ≤ 65535) × (at + length (local_layout tag span (positions_of base (map R.number rows.now))) ≤ length out.old) }
+    ensures { Written (local_layout tag span (positions_of base (map R.number rows.now))) at out.old out.new result }
 {
-    if tag == 2 {
-        return emit_rows::list_rows(out, at, rows, base, true);
+    match tag {
+        2 => emit_rows::list_rows(out, at, rows, base, true),
+        3 => emit_rows::list_rows(out, at, rows, base, false),
+        4 => emit_rows::runs_rows(out, at, rows, base, false),
+        5 => emit_rows::runs_rows(out, at, rows, base, true),
+        6 => emit_rows::bitmap_rows(out, at, rows, base, span),
+        7 => emit_rows::missing_rows(out, at, rows, base, span),
+        _ => at,
     }
-    if tag == 3 {
-        return emit_rows::list_rows(out, at, rows, base, false);
-    }
-    if tag == 4 {
-        return emit_rows::runs_rows(out, at, rows, base, false);
-    }
-    if tag == 5 {
-        return emit_rows::runs_rows(out, at, rows, base, true);
-    }
-    if tag == 6 {
-        return emit_rows::bitmap_rows(out, at, rows, base, span);
-    }
-    if tag == 7 {
-        return emit_rows::missing_rows(out, at, rows, base, span);
-    }
-    at
 }
 
 // A body over the whole span. The number of runs is at hand from the statistics.
-pub fn plain_rows(out: &mut [u8], rows: &[u64], start: u64, tag: u8, span: u32, runs: u16) -> usize
-    requires { (Rising start (start + span) rows.now) × (length rows.now ≤ 65535) × (runs ≡ length (runs_of (positions_of start rows.now))) × (length (plain_layout tag span (positions_of start rows.now)) ≤ length out.old) }
-    ensures { Written (plain_layout tag span (positions_of start rows.now)) 0 out.old out.new result }
+pub fn plain_rows<R: Row>(
+    out: &mut [u8],
+    rows: &[R],
+    start: u64,
+    tag: u8,
+    span: u32,
+    runs: u16,
+) -> usize
+    requires { (Rising start (start + span) (map R.number rows.now)) × (length rows.now ≤ 65535) × (runs ≡ length (runs_of (positions_of start (map R.number rows.now)))) × (length (plain_layout tag span (positions_of start (map R.number rows.now))) ≤ length out.old) }
+    ensures { Written (plain_layout tag span (positions_of start (map R.number rows.now))) 0 out.old out.new result }
 {
     let p = plain_header(out, 0, tag, rows.len() as u16, runs);
     local_rows(out, p, rows, start, tag, span)
@@ -120,89 +122,18 @@ fn extent(first: u64, last: u64) -> u32
 }
 
 // A body from the first row to the last: a bitmap, or the missing form.
-pub fn trimmed_rows(out: &mut [u8], rows: &[u64], start: u64, tag: u8) -> usize
-    requires { (Covered start rows.now) × (length rows.now ≤ 65535) × (length (trimmed_layout tag (positions_of start rows.now)) ≤ length out.old) }
-    ensures { Written (trimmed_layout tag (positions_of start rows.now)) 0 out.old out.new result }
+pub fn trimmed_rows<R: Row>(out: &mut [u8], rows: &[R], start: u64, tag: u8) -> usize
+    requires { (Covered start (map R.number rows.now)) × (length rows.now ≤ 65535) × (length (trimmed_layout tag (positions_of start (map R.number rows.now))) ≤ length out.old) }
+    ensures { Written (trimmed_layout tag (positions_of start (map R.number rows.now))) 0 out.old out.new result }
 {
     let n = rows.len();
-    let first = rows[0];
+    let first = row_at(rows, 0);
     let base = stats::position(first, start);
-    let span = extent(first, rows[n - 1]);
+    let span = extent(first, row_at(rows, n - 1));
     if tag == 6 {
         let p = bitmap_header(out, 0, base, span, n as u16);
         return local_rows(out, p, rows, first, 6, span);
     }
     let p = missing_header(out, 0, base, span, n as u16);
     local_rows(out, p, rows, first, 7, span)
-}
-
-// ---- the same of u16 ordinals, which are their own positions
-
-pub fn local_ordinals(
-    out: &mut [u8],
-    at: usize,
-    ordinals: &[u16],
-    base: u16,
-    tag: u8,
-    span: u32,
-) -> usize
-    requires { (Rising base (base + span) ordinals.now) × (length ordinals.now ≤ 65535) × (at + length (local_layout tag span (positions_of base ordinals.now)) ≤ length out.old) }
-    ensures { Written (local_layout tag span (positions_of base ordinals.now)) at out.old out.new result }
-{
-    if tag == 2 {
-        return emit_ordinals::list_ordinals(out, at, ordinals, base, true);
-    }
-    if tag == 3 {
-        return emit_ordinals::list_ordinals(out, at, ordinals, base, false);
-    }
-    if tag == 4 {
-        return emit_ordinals::runs_ordinals(out, at, ordinals, base, false);
-    }
-    if tag == 5 {
-        return emit_ordinals::runs_ordinals(out, at, ordinals, base, true);
-    }
-    if tag == 6 {
-        return emit_ordinals::bitmap_ordinals(out, at, ordinals, base, span);
-    }
-    if tag == 7 {
-        return emit_ordinals::missing_ordinals(out, at, ordinals, base, span);
-    }
-    at
-}
-
-pub fn plain_ordinals(out: &mut [u8], ordinals: &[u16], tag: u8, span: u32, runs: u16) -> usize
-    requires { (Rising 0 (0 + span) ordinals.now) × (length ordinals.now ≤ 65535) × (runs ≡ length (runs_of (positions_of 0 ordinals.now))) × (length (plain_layout tag span (positions_of 0 ordinals.now)) ≤ length out.old) }
-    ensures { Written (plain_layout tag span (positions_of 0 ordinals.now)) 0 out.old out.new result }
-{
-    let p = plain_header(out, 0, tag, ordinals.len() as u16, runs);
-    local_ordinals(out, p, ordinals, 0, tag, span)
-}
-
-fn wide(x: u16) -> u32
-    ensures { result ≡ x - 0 }
-{
-    x as u32
-}
-
-fn extent16(first: u16, last: u16) -> u32
-    requires { first ≤ last }
-    ensures { result ≡ last - first + 1 }
-{
-    (last - first) as u32 + 1
-}
-
-pub fn trimmed_ordinals(out: &mut [u8], ordinals: &[u16], tag: u8) -> usize
-    requires { (Covered 0 ordinals.now) × (length ordinals.now ≤ 65535) × (length (trimmed_layout tag (positions_of 0 ordinals.now)) ≤ length out.old) }
-    ensures { Written (trimmed_layout tag (positions_of 0 ordinals.now)) 0 out.old out.new result }
-{
-    let n = ordinals.len();
-    let first = ordinals[0];
-    let base = wide(first);
-    let span = extent16(first, ordinals[n - 1]);
-    if tag == 6 {
-        let p = bitmap_header(out, 0, base, span, n as u16);
-        return local_ordinals(out, p, ordinals, first, 6, span);
-    }
-    let p = missing_header(out, 0, base, span, n as u16);
-    local_ordinals(out, p, ordinals, first, 7, span)
 }

@@ -1,14 +1,13 @@
 // Document 01's pages and rows, gathered into one record by the calls that lend it.
 use crate::{say, say16};
-use gather::{Added, Gatherer, Step};
+use gather::{Gatherer, Step};
 use std::io::Stdout;
 
 // The number of a refusal, or 0; the record that is left; and the table that is left.
 fn say_step(stdout: Stdout, s: Step, table: &[u16; 3]) {
-    let answer = s.answer;
-    match answer {
-        Added::Done => say(stdout, 0),
-        Added::Refused(k) => say(stdout, k as u64),
+    match s.answer {
+        Ok(()) => say(stdout, 0),
+        Err(refusal) => say(stdout, u64::from(u8::from(refusal))),
     }
     let g = s.after;
     say(stdout, g.entries as u64);
@@ -22,10 +21,10 @@ fn say_step(stdout: Stdout, s: Step, table: &[u16; 3]) {
 
 fn record(entries: usize, rows: usize, first: u64, last: u64) -> Gatherer {
     Gatherer {
-        entries: entries,
-        rows: rows,
-        first: first,
-        last: last,
+        entries,
+        rows,
+        first,
+        last,
     }
 }
 

@@ -8,67 +8,44 @@ mod gathering;
 mod plans;
 
 use directory::Segment;
-use rowset::{Checked, Filled, Ranked, Selected};
+use model::Refusal;
 use std::io::Stdout;
 
-fn digit(n: u64) -> u8 {
-    48 + (n % 10) as u8
-}
-
 fn say(stdout: Stdout, n: u64) {
-    let text = [
-        digit(n / 1000000000),
-        digit(n / 100000000),
-        digit(n / 10000000),
-        digit(n / 1000000),
-        digit(n / 100000),
-        digit(n / 10000),
-        digit(n / 1000),
-        digit(n / 100),
-        digit(n / 10),
-        digit(n),
-        b'\n',
-    ];
-    let _ = stdout.write_all(&text);
+    let _ = println!(stdout; "{n:010}");
 }
 
 fn say32(stdout: Stdout, n: u32) {
-    say(stdout, n as u64);
+    say(stdout, u64::from(n));
 }
 
 fn say16(stdout: Stdout, n: u16) {
-    say(stdout, n as u64);
+    say(stdout, u64::from(n));
 }
 
 fn say_refused(stdout: Stdout) {
-    let _ = stdout.write_all(&[b'r', b'e', b'f', b'u', b's', b'e', b'd', b'\n']);
+    let _ = println!(stdout; "refused");
 }
 
 fn say_nothing(stdout: Stdout) {
-    let _ = stdout.write_all(&[b'n', b'o', b't', b'h', b'i', b'n', b'g', b'\n']);
+    let _ = println!(stdout; "nothing");
 }
 
-fn say_checked(stdout: Stdout, c: Checked) {
-    match c {
-        Checked::Rows(n) => say16(stdout, n),
-        Checked::Refused => say_refused(stdout),
+// A number, nothing, or a refusal of a body.
+fn say_found(stdout: Stdout, answer: Result<Option<u32>, Refusal>) {
+    match answer {
+        Ok(Some(n)) => say32(stdout, n),
+        Ok(None) => say_nothing(stdout),
+        Err(_) => say_refused(stdout),
     }
 }
 
-fn say_ranked(stdout: Stdout, r: Ranked) {
-    match r {
-        Ranked::Ordinal(k) => say16(stdout, k),
-        Ranked::Nothing => say_nothing(stdout),
-        Ranked::Refused => say_refused(stdout),
-    }
+fn say_checked(stdout: Stdout, answer: Result<u16, Refusal>) {
+    say_found(stdout, answer.map(|n| Some(u32::from(n))));
 }
 
-fn say_selected(stdout: Stdout, s: Selected) {
-    match s {
-        Selected::Position(p) => say32(stdout, p),
-        Selected::Nothing => say_nothing(stdout),
-        Selected::Refused => say_refused(stdout),
-    }
+fn say_ranked(stdout: Stdout, answer: Result<Option<u16>, Refusal>) {
+    say_found(stdout, answer.map(|ordinal| ordinal.map(|k| u32::from(k))));
 }
 
 fn check(stdout: Stdout, tag: u8, span: u32, body: &[u8]) {
@@ -109,39 +86,10 @@ fn check_numbers(stdout: Stdout) {
 
 // Twelve rows in one segment: 100000 + 100 i.
 fn twelve() -> [u8; 44] {
-    let mut body = [0u8; 44];
-    body[0] = 12;
-    body[2] = 1;
-    body[4] = 160;
-    body[5] = 134;
-    body[6] = 1;
-    body[8] = 77;
-    body[9] = 4;
-    body[10] = 12;
-    body[14] = 20;
-    body[16] = 24;
-    body[18] = 3;
-    body[22] = 100;
-    body[24] = 200;
-    body[26] = 44;
-    body[27] = 1;
-    body[28] = 144;
-    body[29] = 1;
-    body[30] = 244;
-    body[31] = 1;
-    body[32] = 88;
-    body[33] = 2;
-    body[34] = 188;
-    body[35] = 2;
-    body[36] = 32;
-    body[37] = 3;
-    body[38] = 132;
-    body[39] = 3;
-    body[40] = 232;
-    body[41] = 3;
-    body[42] = 76;
-    body[43] = 4;
-    body
+    [
+        12, 0, 1, 0, 160, 134, 1, 0, 77, 4, 12, 0, 0, 0, 20, 0, 24, 0, 3, 0, 0, 0, 100, 0, 200, 0,
+        44, 1, 144, 1, 244, 1, 88, 2, 188, 2, 32, 3, 132, 3, 232, 3, 76, 4,
+    ]
 }
 
 fn rank_twelve(stdout: Stdout, position: u32) {
@@ -149,13 +97,13 @@ fn rank_twelve(stdout: Stdout, position: u32) {
 }
 
 fn select_twelve(stdout: Stdout, ordinal: u16) {
-    say_selected(stdout, rowset::select(9, 200000, &twelve(), ordinal));
+    say_found(stdout, rowset::select(9, 200000, &twelve(), ordinal));
 }
 
 // The last two rows, and a place of the output that stays.
 fn walk_twelve(stdout: Stdout) {
     let mut out = [7u32; 3];
-    rowset::walk(9, 200000, &twelve(), 10, &mut out);
+    let _ = rowset::walk(9, 200000, &twelve(), 10, &mut out);
     say32(stdout, out[0]);
     say32(stdout, out[1]);
     say32(stdout, out[2]);
@@ -177,15 +125,15 @@ fn say_segment(stdout: Stdout, s: Segment) {
     say16(stdout, s.ordinal);
     say16(stdout, s.offset);
     say16(stdout, s.length);
-    say(stdout, s.tag as u64);
+    say(stdout, u64::from(s.tag));
 }
 
-fn say_filled(stdout: Stdout, f: Filled) {
-    match f {
-        Filled::Written(n) => say(stdout, (n % 1000) as u64),
-        Filled::Refused(k) => {
+fn say_filled(stdout: Stdout, answer: Result<usize, Refusal>) {
+    match answer {
+        Ok(n) => say(stdout, (n % 1000) as u64),
+        Err(refusal) => {
             say_refused(stdout);
-            say(stdout, k as u64)
+            say(stdout, u64::from(u8::from(refusal)))
         }
     }
 }
@@ -216,26 +164,10 @@ fn list(stdout: Stdout, tag: u8, span: u32, body: &[u8]) -> Segment {
 
 // Three segments of one row each, at 0, 2 and 4.
 fn three() -> [u8; 52] {
-    let mut body = [0u8; 52];
-    body[0] = 3;
-    body[2] = 3;
-    body[8] = 1;
-    body[10] = 1;
-    body[14] = 52;
-    body[18] = 1;
-    body[20] = 2;
-    body[24] = 1;
-    body[26] = 1;
-    body[28] = 1;
-    body[30] = 52;
-    body[34] = 1;
-    body[36] = 4;
-    body[40] = 1;
-    body[42] = 1;
-    body[44] = 2;
-    body[46] = 52;
-    body[50] = 1;
-    body
+    [
+        3, 0, 3, 0, 0, 0, 0, 0, 1, 0, 1, 0, 0, 0, 52, 0, 0, 0, 1, 0, 2, 0, 0, 0, 1, 0, 1, 0, 1, 0,
+        52, 0, 0, 0, 1, 0, 4, 0, 0, 0, 1, 0, 1, 0, 2, 0, 52, 0, 0, 0, 1, 0,
+    ]
 }
 
 // The one record of twelve rows, with the second place as it was; no records of another tag; a span that is too small; a table that is.

@@ -1,37 +1,30 @@
 // Document 01's rows, planned: the answer, and the body in hexadecimal digits.
 use crate::{say, say_refused, say16, say32};
-use plan::Planned;
+use model::Refusal;
+use plan::Body;
 use std::io::Stdout;
-
-fn hex(n: u8) -> u8 {
-    let d = n % 16;
-    if d < 10 { b'0' + d } else { b'A' + (d - 10) }
-}
 
 // The first n bytes of an output, 64 at most.
 fn say_bytes(stdout: Stdout, out: &[u8; 64], n: usize) {
-    let mut i = 0;
-    while i < 64 {
-        if i < n {
-            let _ = stdout.write_all(&[hex(out[i] / 16), hex(out[i])]);
-        }
-        i += 1;
+    for byte in &out[..n.min(64)] {
+        let byte = *byte;
+        let _ = print!(stdout; "{byte:02X}");
     }
-    let _ = stdout.write_all(&[b'\n']);
+    let _ = println!(stdout);
 }
 
-fn say_plan(stdout: Stdout, p: Planned, out: &[u8; 64]) {
-    match p {
-        Planned::Made(b) => {
-            say(stdout, b.tag as u64);
+fn say_plan(stdout: Stdout, answer: Result<Body, Refusal>, out: &[u8; 64]) {
+    match answer {
+        Ok(b) => {
+            say(stdout, u64::from(b.tag));
             say16(stdout, b.length);
             say16(stdout, b.segments);
             say32(stdout, b.offers);
-            say_bytes(stdout, out, b.length as usize)
+            say_bytes(stdout, out, usize::from(b.length))
         }
-        Planned::Refused(k) => {
+        Err(refusal) => {
             say_refused(stdout);
-            say(stdout, k as u64)
+            say(stdout, u64::from(u8::from(refusal)))
         }
     }
 }
@@ -120,7 +113,7 @@ pub(crate) fn all(stdout: Stdout) {
 }
 
 fn say8(stdout: Stdout, n: u8) {
-    say(stdout, n as u64);
+    say(stdout, u64::from(n));
 }
 
 // Refusals 1 to 3, and rows at the top of u64.

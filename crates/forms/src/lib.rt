@@ -2,80 +2,75 @@
 
 #![tactic(auto)]
 
-ghost use Rattle.std.specs.Prelude.{◌≡◌, true, ◌-◌, ◌<◌, ◌≤◌, length};
+ghost use Rattle.std.specs.Prelude.{◌≡◌, ◌-◌, ◌*◌, ◌/◌, ◌<◌, ◌≤◌, true, length};
+ghost use Rattle.fields.specs.Le.{width_of};
 ghost use Rattle.model.specs.Answers.{over, ranks_in, Walked};
+ghost use Rattle.runs.specs.Runs.{stride_of};
 ghost use Rattle.forms.specs.Forms.{local_accepts, local_sized, local_place, local_select, local_walk};
 
+use bitmap::Bitmap;
+use lists::Items;
+use missing::Holes;
 use model::Place;
+use runs::Runs;
 
+#[tactic(auto, unfolding(crate::specs::Forms::local_accepts, crate::specs::Forms::by_tag, model::specs::Tests::pick, fields::specs::Le::width_of))]
 pub fn check(tag: u8, body: &[u8], span: u32, count: u16) -> bool
     ensures { result ≡ local_accepts tag body.now span count }
 {
-    if tag == 1 {
-        return lists::dense_check(body, span, count);
+    match tag {
+        1 => lists::dense_check(body, span, count),
+        2 => lists::check(body, span, count, true),
+        3 => lists::check(body, span, count, false),
+        4 => runs::check(body, span, count, false),
+        5 => runs::check(body, span, count, true),
+        6 => bitmap::check(body, span, count),
+        7 => missing::check(body, span, count),
+        _ => false,
     }
-    if tag == 2 {
-        return lists::check(body, span, count, true);
-    }
-    if tag == 3 {
-        return lists::check(body, span, count, false);
-    }
-    if tag == 4 {
-        return runs::check(body, span, count, false);
-    }
-    if tag == 5 {
-        return runs::check(body, span, count, true);
-    }
-    if tag == 6 {
-        return bitmap::check(body, span, count);
-    }
-    if tag == 7 {
-        return missing::check(body, span, count);
-    }
-    false
 }
 
-// The holes of so many rows.
-fn holes(span: u32, count: u16) -> u16
-    requires { (span ≤ 65535) × (count ≤ span) }
-    ensures { result ≡ span - count }
+// The runs that fill a body.
+fn table(body: &[u8], wide: bool) -> Runs
+    ensures body { result.body.now ≡ body.now }
+    ensures runs { result.runs ≡ length body.now / stride_of (width_of wide) }
+    ensures wide { result.wide ≡ wide }
 {
-    (span - count as u32) as u16
+    Runs::new(body, runs::runs_in(body.len(), wide), wide)
+}
+
+// The holes between so many rows.
+fn holes(body: &[u8], span: u32, count: u16) -> Holes
+    requires { (span ≤ 65535) × (count ≤ span) × ((span - count) * 2 ≤ length body.now) }
+    ensures body { result.body.now ≡ body.now }
+    ensures count { result.count ≡ span - count }
+{
+    Holes::new(body, span as u16 - count)
 }
 
 // Where p stands.
+#[tactic(auto, unfolding(crate::specs::Forms::local_place, crate::specs::Forms::by_tag, model::specs::Tests::pick, fields::specs::Le::width_of, runs::specs::Runs::run_count))]
 pub fn place(tag: u8, body: &[u8], span: u32, count: u16, p: u32) -> Place
     requires { local_sized tag (length body.now) span count ≡ true }
     ensures { result ≡ local_place tag body.now span count p }
 {
-    if tag == 1 {
-        return lists::dense_place(span, p);
-    }
-    if tag == 2 {
-        return lists::place(body, count, p, true);
-    }
-    if tag == 3 {
-        return lists::place(body, count, p, false);
-    }
-    if tag == 4 {
-        return runs::place(body, runs::runs_in(body.len(), false), p, false);
-    }
-    if tag == 5 {
-        return runs::place(body, runs::runs_in(body.len(), true), p, true);
-    }
-    if tag == 6 {
-        return bitmap::place(body, span, count, p);
-    }
-    if tag == 7 {
-        return missing::place(body, span, holes(span, count), p);
-    }
-    Place {
-        below: 0,
-        present: false,
+    match tag {
+        1 => lists::dense_place(span, p),
+        2 => Items::new(body, count, true).place(p),
+        3 => Items::new(body, count, false).place(p),
+        4 => table(body, false).place(p),
+        5 => table(body, true).place(p),
+        6 => Bitmap::new(body, span).place(count, p),
+        7 => holes(body, span, count).place(span, p),
+        _ => Place {
+            below: 0,
+            present: false,
+        },
     }
 }
 
 // Writes the rank of each position in the part that begins at base, or the number that stands for nothing. The tag is asked once.
+#[tactic(auto, unfolding(crate::specs::Forms::local_place, crate::specs::Forms::by_tag, model::specs::Tests::pick, fields::specs::Le::width_of, runs::specs::Runs::run_count))]
 pub fn ranks(
     tag: u8,
     body: &[u8],
@@ -88,75 +83,38 @@ pub fn ranks(
     requires { (local_accepts tag body.now span count ≡ true) × (length positions.now ≤ length out.old) }
     ensures { out.new ≡ over (ranks_in (local_place tag body.now span count) base span positions.now) out.old }
 {
-    if tag == 1 {
-        return lists::dense_ranks(base, span, positions, out);
-    }
-    if tag == 2 {
-        return lists::ranks(body, count, base, span, positions, out, true);
-    }
-    if tag == 3 {
-        return lists::ranks(body, count, base, span, positions, out, false);
-    }
-    if tag == 4 {
-        return runs::ranks(
-            body,
-            runs::runs_in(body.len(), false),
-            base,
-            span,
-            positions,
-            out,
-            false,
-        );
-    }
-    if tag == 5 {
-        return runs::ranks(
-            body,
-            runs::runs_in(body.len(), true),
-            base,
-            span,
-            positions,
-            out,
-            true,
-        );
-    }
-    if tag == 6 {
-        return bitmap::ranks(body, count, base, span, positions, out);
-    }
-    if tag == 7 {
-        missing::ranks(body, holes(span, count), base, span, positions, out);
+    match tag {
+        1 => lists::dense_ranks(base, span, positions, out),
+        2 => Items::new(body, count, true).ranks(base, span, positions, out),
+        3 => Items::new(body, count, false).ranks(base, span, positions, out),
+        4 => table(body, false).ranks(base, span, positions, out),
+        5 => table(body, true).ranks(base, span, positions, out),
+        6 => Bitmap::new(body, span).ranks(count, base, positions, out),
+        7 => holes(body, span, count).ranks(base, span, positions, out),
+        _ => {}
     }
 }
 
 // The position of ordinal k.
+#[tactic(auto, unfolding(crate::specs::Forms::local_select, crate::specs::Forms::by_tag, model::specs::Tests::pick, fields::specs::Le::width_of, runs::specs::Runs::run_count))]
 pub fn select(tag: u8, body: &[u8], span: u32, count: u16, k: u16) -> u32
     requires { (local_sized tag (length body.now) span count ≡ true) × (k < count) }
     ensures { result ≡ local_select tag body.now span count k }
 {
-    if tag == 1 {
-        return k as u32;
+    match tag {
+        1 => u32::from(k),
+        2 => Items::new(body, count, true).select(k),
+        3 => Items::new(body, count, false).select(k),
+        4 => table(body, false).select(k),
+        5 => table(body, true).select(k),
+        6 => Bitmap::new(body, span).select(k),
+        7 => holes(body, span, count).select(k),
+        _ => 0,
     }
-    if tag == 2 {
-        return lists::select(body, k, true);
-    }
-    if tag == 3 {
-        return lists::select(body, k, false);
-    }
-    if tag == 4 {
-        return runs::select(body, runs::runs_in(body.len(), false), k, false);
-    }
-    if tag == 5 {
-        return runs::select(body, runs::runs_in(body.len(), true), k, true);
-    }
-    if tag == 6 {
-        return bitmap::select(body, span, k);
-    }
-    if tag == 7 {
-        return missing::select(body, holes(span, count), k);
-    }
-    0
 }
 
 // Writes the positions from an ordinal on, counted from base, as many as fit or remain, and answers how many.
+#[tactic(auto, unfolding(crate::specs::Forms::local_walk, crate::specs::Forms::by_tag, model::specs::Tests::pick, fields::specs::Le::width_of, runs::specs::Runs::run_count))]
 pub fn walk(
     tag: u8,
     body: &[u8],
@@ -169,33 +127,14 @@ pub fn walk(
     requires { local_sized tag (length body.now) span count ≡ true }
     ensures { Walked (local_walk tag body.now span count from base (length out.old)) out.old out.new result }
 {
-    if tag == 1 {
-        return lists::dense_walk(count, from, base, out);
+    match tag {
+        1 => lists::dense_walk(count, from, base, out),
+        2 => Items::new(body, count, true).walk(from, base, out),
+        3 => Items::new(body, count, false).walk(from, base, out),
+        4 => table(body, false).walk(from, base, out),
+        5 => table(body, true).walk(from, base, out),
+        6 => Bitmap::new(body, span).walk(from, base, out),
+        7 => holes(body, span, count).walk(span, from, base, out),
+        _ => 0,
     }
-    if tag == 2 {
-        return lists::walk(body, count, from, base, out, true);
-    }
-    if tag == 3 {
-        return lists::walk(body, count, from, base, out, false);
-    }
-    if tag == 4 {
-        return runs::walk(
-            body,
-            runs::runs_in(body.len(), false),
-            from,
-            base,
-            out,
-            false,
-        );
-    }
-    if tag == 5 {
-        return runs::walk(body, runs::runs_in(body.len(), true), from, base, out, true);
-    }
-    if tag == 6 {
-        return bitmap::walk(body, span, from, base, out);
-    }
-    if tag == 7 {
-        return missing::walk(body, span, holes(span, count), from, base, out);
-    }
-    0
 }

@@ -1,54 +1,37 @@
-// The gatherer as one record that is lent to be changed: thin calls over the by-value core.
-ghost use Rattle.std.specs.Prelude.{◌≡◌, true, length};
+// The gatherer as one record that is lent to be changed.
+ghost use Rattle.std.specs.Prelude.{◌≡◌, length};
 ghost use Rattle.gather_core.specs.Gather.{row_answer, row_table, page_answer, page_table};
-ghost use Rattle.gather.specs.Records.{added_answer, row_record, page_record, step_of, Joined};
+ghost use Rattle.gather.specs.Records.{added_answer, row_record, page_record, step_of};
 
 use crate::quick::{Way, goes_in, put_anew, put_on, row_way};
-use crate::{Gathered, gather_page, gather_row};
+use crate::{gather_page, gather_row};
 use gather_core::{Gatherer, put_page};
+use model::Refusal;
 
-// Done, and the lent record is the new one; or the refusal's number, and it is the old one.
-#[derive(Clone, Copy)]
-pub enum Added {
-    Done,
-    Refused(u8),
-}
-
-// An answer, and the record that it leaves.
+// An answer, and the record that it leaves: the new one, or the old one where the answer is a refusal.
 #[derive(Clone, Copy)]
 pub struct Step {
-    pub answer: Added,
+    pub answer: Result<(), Refusal>,
     pub after: Gatherer,
-}
-
-// A step, and whether it is seen that a row has joined the last seed. The record's entries and first row are then the old ones, so
-// that they need no store, and the compiled code has an end of its own for such rows. Of a page it is never said.
-#[derive(Clone, Copy)]
-pub(crate) struct Change {
-    answer: Added,
-    after: Gatherer,
-    joined: bool,
 }
 
 // The by-value answer, over the old record. The new record is written over the old one: with an answer built in each arm, the
 // compiled code chose between two records in memory, where this one stays in registers.
-fn taken_apart(old: Gatherer, c: Gathered) -> Step
+#[tactic(auto, unfolding(crate::specs::Records::step_of))]
+fn taken_apart(old: Gatherer, c: Result<Gatherer, Refusal>) -> Step
     ensures { result ≡ step_of old c }
 {
-    let mut answer = Added::Done;
+    let mut answer = Ok(());
     let mut after = old;
     match c {
-        Gathered::Record(next) => {
+        Ok(next) => {
             after = next;
         }
-        Gathered::Refused(k) => {
-            answer = Added::Refused(k);
+        Err(refusal) => {
+            answer = Err(refusal);
         }
     }
-    Step {
-        answer: answer,
-        after: after,
-    }
+    Step { answer, after }
 }
 
 // A row by every test in its order: the answer, and the record that it leaves.
@@ -82,88 +65,34 @@ fn copied(g: Gatherer) -> Gatherer
     }
 }
 
-// What `tested_row` does, with few tests for the rows that most rows are: those that go on in the last seed, and those that
-// begin another where there is room.
-fn row_step(g: Gatherer, table: &mut [u16], row: u64) -> Change
-    ensures answered { added_answer result.answer result.after ≡ row_answer g (length table.old) row }
-    ensures record_after { (result.after ≡ row_record g (length table.old) row) × (result.joined ≡ true → Joined g result) }
-    ensures table_after { table.new ≡ row_table g table.old row }
-{
-    match row_way(g, table.len(), row) {
-        Way::On => Change {
-            answer: Added::Done,
-            after: put_on(g, table, row),
-            joined: true,
-        },
-        Way::Anew => Change {
-            answer: Added::Done,
-            after: put_anew(g, table, row),
-            joined: false,
-        },
-        Way::Refused(number) => Change {
-            answer: Added::Refused(number),
-            after: g,
-            joined: false,
-        },
-    }
-}
-
-// What `tested_page` does, with few tests for a page behind others, where there is an entry for each of its rows.
-fn page_step(g: Gatherer, table: &mut [u16], rows: &[u64]) -> Change
-    ensures answered { added_answer result.answer result.after ≡ page_answer g (length table.old) rows.now }
-    ensures record_after { (result.after ≡ page_record g (length table.old) rows.now) × (result.joined ≡ true → Joined g result) }
-    ensures table_after { table.new ≡ page_table g table.old rows.now }
-{
-    if goes_in(g, table.len(), rows) {
-        Change {
-            answer: Added::Done,
-            after: put_page(g, table, rows),
-            joined: false,
-        }
-    } else {
-        let s = tested_page(copied(g), table, &*rows);
-        let answer = s.answer;
-        let after = s.after;
-        Change {
-            answer: answer,
-            after: after,
-            joined: false,
-        }
-    }
-}
-
-// One row more, into the lent record and the lent table; or a refusal, and both as they were.
-pub fn add_row(g: &mut Gatherer, table: &mut [u16], row: u64) -> Added
+// One row more, into the lent record and the lent table; or a refusal, and both as they were. What `tested_row` does, with few
+// tests for the rows that most rows are: those that go on in the last seed, and those that begin another where there is room.
+pub fn add_row(g: &mut Gatherer, table: &mut [u16], row: u64) -> Result<(), Refusal>
     ensures answered { added_answer result g.new ≡ row_answer g.old (length table.old) row }
     ensures record_after { g.new ≡ row_record g.old (length table.old) row }
     ensures table_after { table.new ≡ row_table g.old table.old row }
 {
-    let c = row_step(*g, table, row);
-    if c.joined {
-        g.rows = c.after.rows;
-        g.last = c.after.last;
-        Added::Done
-    } else {
-        *g = c.after;
-        c.answer
+    match row_way(*g, table.len(), row)? {
+        Way::On => put_on(g, table, row),
+        Way::Anew => put_anew(g, table, row),
     }
+    Ok(())
 }
 
-// A page, into the lent record and the lent table; or a refusal, and both as they were.
-pub fn add_page(g: &mut Gatherer, table: &mut [u16], rows: &[u64]) -> Added
+// A page, into the lent record and the lent table; or a refusal, and both as they were. What `tested_page` does, with few tests
+// for a page behind others, where there is an entry for each of its rows.
+pub fn add_page(g: &mut Gatherer, table: &mut [u16], rows: &[u64]) -> Result<(), Refusal>
     ensures answered { added_answer result g.new ≡ page_answer g.old (length table.old) rows.now }
     ensures record_after { g.new ≡ page_record g.old (length table.old) rows.now }
     ensures table_after { table.new ≡ page_table g.old table.old rows.now }
 {
-    let c = page_step(*g, table, rows);
-    if c.joined {
-        g.rows = c.after.rows;
-        g.last = c.after.last;
-        Added::Done
-    } else {
-        *g = c.after;
-        c.answer
+    if goes_in(*g, table.len(), rows) {
+        *g = put_page(*g, table, rows);
+        return Ok(());
     }
+    let s = tested_page(copied(*g), table, &*rows);
+    *g = s.after;
+    s.answer
 }
 
 // `add_row` on a local record.
@@ -172,12 +101,9 @@ pub fn lend_row(g: Gatherer, table: &mut [u16], row: u64) -> Step
     ensures record_after { result.after ≡ row_record g (length table.old) row }
     ensures table_after { table.new ≡ row_table g table.old row }
 {
-    let mut h = g;
-    let a = add_row(&mut h, table, row);
-    Step {
-        answer: a,
-        after: h,
-    }
+    let mut after = g;
+    let answer = add_row(&mut after, table, row);
+    Step { answer, after }
 }
 
 // `add_page` on a local record.
@@ -186,10 +112,7 @@ pub fn lend_page(g: Gatherer, table: &mut [u16], rows: &[u64]) -> Step
     ensures record_after { result.after ≡ page_record g (length table.old) rows.now }
     ensures table_after { table.new ≡ page_table g table.old rows.now }
 {
-    let mut h = g;
-    let a = add_page(&mut h, table, rows);
-    Step {
-        answer: a,
-        after: h,
-    }
+    let mut after = g;
+    let answer = add_page(&mut after, table, rows);
+    Step { answer, after }
 }

@@ -189,10 +189,11 @@ above_last g row e n = ltb-true g.last row (sym (pick_false _ _ (ne_eqb g.rows 0
 -- ---- what the quick tests find
 
 module _ (g : Gatherer) (room row : ℕ) where
-  pub follows : Able g room → 1 ≤ g.entries → g.rows ≤ 65534 → g.last < row → Follows g room row
-  follows a some few l =
-      let up = last_above g row (λ z. omega (arith, a.in_rows)) l in
-      record { some = some; number = passing g room (above g row) 1 (record { able = a; rises = up; counted = record { few = omega arith; in_rows = a.in_rows; some = a.some } }) }
+  pub follows : 1 ≤ g.entries → g.entries ≤ room → g.entries ≤ g.rows → g.rows ≤ 65534 → g.first ≤ g.last → g.last < row → Follows g room row
+  follows some in_room in_rows few ordered l =
+      let a : Able g room = record { in_room = in_room; in_rows = in_rows; some = λ n. some; ordered = λ n. ordered } in
+      let up = last_above g row (λ z. omega arith) l in
+      record { some = some; number = passing g room (above g row) 1 (record { able = a; rises = up; counted = record { few = omega arith; in_rows = in_rows; some = a.some } }) }
 
   -- a row that begins a seed, if there is room
   abbrev pub Begins : Type 0
@@ -211,6 +212,11 @@ module _ (g : Gatherer) (room row : ℕ) where
 
     pub followed_above : g.last < row
     followed_above = above_last g row followed.rises some_rows
+
+    pub followed_all : (1 ≤ g.entries) × (g.entries ≤ room) × (g.entries ≤ g.rows) × (g.rows ≤ 65534) × (g.first ≤ g.last) × (g.last < row)
+    followed_all =
+        let a = followed.able in
+        (f.some, a.in_room, a.in_rows, omega (arith, followed.counted.few), followed_order, followed_above)
 
     pub goes_on_lem : g.first / 4096 ≡ row / 4096 → Goes true g room row
     unfolding row_number joins

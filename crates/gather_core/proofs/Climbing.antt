@@ -1,13 +1,20 @@
 -- Rows that rise: the first and the rest of them, and their two ends.
 -- Assumes nothing.
-use Rattle.std.proofs.Common.{◌≡◌, ℕ, zero, suc, ◌+◌, ◌-◌, ◌<◌, ◌≤◌, true, ltb, List, ◌∷◌, length, get_or, sym, ◌∙◌, suc-add, add-one, arith, ltb-true}
+use Rattle.std.proofs.Common.{◌≡◌, ℕ, zero, suc, ◌+◌, ◌-◌, ◌<◌, ◌≤◌, Bool, true, false, ltb, List, ◌∷◌, length, get_or, sym, ◌∙◌, suc-add, add-one, arith, ltb-true}
+use Rattle.std.specs.List.{IsAllAdjacentAnswer}
 use Rattle.model.specs.Tests.{all}
-use Rattle.model.proofs.Tests.{all_at, all_from}
+use Rattle.model.proofs.Tests.{all_at, all_from, all_stop}
 use Rattle.gather_core.specs.Gather.{up_at, rises, first_of, last_of}
 
 pub rises_none : (rows : List ℕ) → length rows ≡ 0 → rises rows ≡ true
 unfolding rises all
 rises_none rows e = rw e
+
+-- each and the next in order, as std's test of a slice finds it
+pub sorted_rises : (rows : List ℕ) (r : Bool) → IsAllAdjacentAnswer (λ x y b. b ≡ ltb x y) rows r → r ≡ rises rows
+unfolding rises up_at
+sorted_rises rows true h = sym (all_from (up_at rows) (length rows - 1) (λ i l. sym (h i 0 (omega arith))))
+sorted_rises rows false (k, l, e) = sym (all_stop (up_at rows) (length rows - 1) k (omega arith) (sym (e 0)))
 
 -- ---- a row in front of others
 

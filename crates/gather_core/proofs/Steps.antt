@@ -1,6 +1,6 @@
 -- Few rows that rise by small steps, where their sum is seen not to wrap around, rise.
 -- Assumes nothing.
-use Rattle.std.proofs.Common.{◌≡◌, ℕ, zero, suc, ◌+◌, ◌-◌, ◌*◌, ◌%◌, ◌^◌, ◌<◌, ◌≤◌, true, ◌⊎◌, List, ◌∷◌, length, get_or, drop, sym, refl, inl, inr, ⊎_elim, add-one, arith, length-drop, get_or-drop, lt-ltb}
+use Rattle.std.proofs.Common.{◌≡◌, ℕ, zero, suc, ◌+◌, ◌-◌, ◌*◌, ◌%◌, ◌^◌, ◌<◌, ◌≤◌, true, ◌⊎◌, List, ◌∷◌, length, get_or, take, drop, refl, inl, inr, ⊎_elim, add-one, arith, length-take, length-drop, get_or-take, get_or-drop, lt-ltb}
 use lib.Bits.{bit_and, and_le_l, and_le_r}
 use Rattle.model.specs.Tests.{all}
 use Rattle.model.proofs.Tests.{order, last_or_before, same_or_not, both_true}
@@ -9,8 +9,8 @@ use Rattle.gather_core.specs.Steps.{Up, Step, Stepped}
 
 -- ---- what a difference modulo 2^64 tells
 
-step_of : (a b d : ℕ) → b < 2 ^ 64 → d < 2 ^ 64 → (d + b) % 2 ^ 64 ≡ a → Step d a b
-step_of a b d hb hd e = ⊎_elim (λ l. inr (omega arith)) (λ m. inl (omega arith, omega arith)) (order (d + b) (2 ^ 64))
+step_of : (a b : ℕ) → a < 2 ^ 64 → b < 2 ^ 64 → Step ((a + (2 ^ 64 - b)) % 2 ^ 64) a b
+step_of a b ha hb = ⊎_elim (λ l. inl (l, omega arith)) (λ m. inr (omega arith)) (order a b)
 
 step_less : (k l a b : ℕ) → k ≤ l → Step l a b → Step k a b
 step_less k l a b h = ⊎_elim (λ s. inl (s.0, omega arith)) (λ s. inr (omega arith))
@@ -19,15 +19,17 @@ pub stepped_none : (least : ℕ) (rows : List ℕ) → Stepped least rows 0
 stepped_none least rows = record { step = λ i h. absurd (omega arith) }
 
 -- one step more
-stepped_more : (least d : ℕ) (rows : List ℕ) (n : ℕ) → get_or rows (n + 1) 0 < 2 ^ 64 → d < 2 ^ 64 → (d + get_or rows (n + 1) 0) % 2 ^ 64 ≡ get_or rows n 0
-    → Stepped least rows n → Stepped (bit_and least d) rows (n + 1)
-stepped_more least d rows n hb hd e s = record {
-  step = λ i h.
-      ⊎_elim
-      (λ q. rw q (step_less (bit_and least d) d _ _ (and_le_r least d) (step_of _ _ d hb hd e)))
-      (λ l. step_less (bit_and least d) least _ _ (and_le_l least d) (s.step i l))
-      (last_or_before (rw add-one at h));
-}
+stepped_more : (least : ℕ) (rows : List ℕ) (n : ℕ) → get_or rows n 0 < 2 ^ 64 → get_or rows (n + 1) 0 < 2 ^ 64 → Stepped least rows n
+    → Stepped (bit_and least ((get_or rows n 0 + (2 ^ 64 - get_or rows (n + 1) 0)) % 2 ^ 64)) rows (n + 1)
+stepped_more least rows n ha hb s =
+    let d = (get_or rows n 0 + (2 ^ 64 - get_or rows (n + 1) 0)) % 2 ^ 64 in
+    record {
+      step = λ i h.
+          ⊎_elim
+          (λ q. rw q (step_less (bit_and least d) d _ _ (and_le_r least d) (step_of _ _ ha hb)))
+          (λ l. step_less (bit_and least d) least _ _ (and_le_l least d) (s.step i l))
+          (last_or_before (rw add-one at h));
+    }
 
 -- ---- the first n steps: rows rise by at most 2^48 each, or their sum went over 2^64 at least once
 
@@ -51,6 +53,14 @@ module _ (least : ℕ) (near : 2 ^ 64 - 2 ^ 48 ≤ least) (rows : List ℕ) wher
 
 -- ---- behind a number, the rows from an index on
 
+-- one step more, to the row at i of the first n
+pub behind_more : (x least before n i : ℕ) (rows : List ℕ) → i < length (take n rows) → before < 18446744073709551616 → get_or rows i 0 < 18446744073709551616 → before ≡ get_or (x ∷ rows) i 0 → Stepped least (x ∷ rows) i
+    → (get_or (take n rows) i 0 ≡ get_or (x ∷ rows) (i + 1) 0) × Stepped (bit_and least ((before + (2 ^ 64 - get_or (take n rows) i 0)) % 2 ^ 64)) (x ∷ rows) (i + 1)
+behind_more x least before n i rows h hb hr e s =
+    let l : i < n = omega (arith, length-take n rows) in
+    let g : get_or (x ∷ rows) (i + 1) 0 ≡ get_or rows i 0 = rw add-one in
+    rw (get_or-take n rows i 0 l, ← g, e) (refl, stepped_more least (x ∷ rows) i (rw e at hb) (rw g hr) s)
+
 module _ (x : ℕ) (rows : List ℕ) where
   pub behind_at : (from i : ℕ) → from ≤ i → get_or (x ∷ drop from rows) (i - from + 1) 0 ≡ get_or rows i 0
   behind_at from i h =
@@ -70,11 +80,3 @@ module _ (x : ℕ) (rows : List ℕ) where
       some z =
           let e : length rows - from ≡ length rows - 1 - from + 1 = omega arith in
           rw (e, behind_at from (length rows - 1) (omega arith)) l
-
-  -- from the row at i on to the next
-  pub behind_more : (least d from i : ℕ) → from ≤ i → get_or rows i 0 < 2 ^ 64 → d < 2 ^ 64 → (d + get_or rows i 0) % 2 ^ 64 ≡ get_or (x ∷ drop from rows) (i - from) 0 → Stepped least (x ∷ drop from rows) (i - from)
-      → (get_or rows i 0 ≡ get_or (x ∷ drop from rows) (i + 1 - from) 0) × Stepped (bit_and least d) (x ∷ drop from rows) (i + 1 - from)
-  behind_more least d from i h hb hd e s =
-      let n : i + 1 - from ≡ i - from + 1 = omega arith in
-      let g : get_or (x ∷ drop from rows) (i - from + 1) 0 ≡ get_or rows i 0 = behind_at from i h in
-      rw n (sym g, stepped_more least d (x ∷ drop from rows) (i - from) (rw g hb) hd (rw g e) s)

@@ -3,12 +3,14 @@
 #![tactic(auto)]
 
 ghost use Rattle.std.specs.Prelude.{◌≡◌, ◌+◌, ◌≤◌, length, nat_lt};
+ghost use Rattle.model.specs.Refusals.{number_in};
 ghost use Rattle.gather_core.specs.Gather.{impossible, above, early, late, joins, added, added_to, row_number, Counted};
 
 mod paging;
 mod rising;
 
-pub use paging::{put_page, some_number};
+use model::Refusal;
+pub use paging::{page_fits, put_page};
 pub use rising::{rises, rises_closely};
 
 // Entries of the table in use, rows gathered, first row of the last seed, last row. Hosts lend it, so its layout is C's.
@@ -22,107 +24,94 @@ pub struct Gatherer {
 }
 
 // Test 12.
+#[tactic(auto, unfolding(crate::specs::Gather::impossible, model::specs::Tests::pick))]
 pub fn impossible(g: Gatherer, room: usize) -> bool
     ensures { result ≡ impossible g room }
 {
-    if room < g.entries {
-        return true;
-    }
-    if g.rows < g.entries {
-        return true;
-    }
-    if g.rows == 0 {
-        return false;
-    }
-    if g.entries == 0 {
-        return true;
-    }
-    g.last < g.first
+    room < g.entries || g.rows < g.entries || g.rows != 0 && (g.entries == 0 || g.last < g.first)
 }
 
 // Whether a row is above the last row, if any.
+#[tactic(auto, unfolding(crate::specs::Gather::above, model::specs::Tests::pick))]
 pub fn above(g: Gatherer, row: u64) -> bool
     ensures { result ≡ above g row }
 {
-    if g.rows == 0 {
-        return true;
-    }
-    g.last < row
+    g.rows == 0 || g.last < row
 }
 
 // Whether n rows more would make more than 65,535.
 pub fn too_many(g: Gatherer, n: usize) -> bool
     ensures { result ≡ nat_lt 65535 (g.rows + n) }
 {
-    let rows = g.rows;
-    if 65535 < rows {
-        return true;
-    }
-    65535 - rows < n
+    65535 < g.rows.saturating_add(n)
 }
 
 // Tests 12, 3 and 2, in that order.
-pub fn early(g: Gatherer, room: usize, rising: bool, n: usize) -> u8
-    ensures { result ≡ early g room rising n }
+#[tactic(auto, unfolding(crate::specs::Gather::early, model::specs::Tests::pick))]
+pub fn early(g: Gatherer, room: usize, rising: bool, n: usize) -> Result<(), Refusal>
+    ensures { number_in result ≡ early g room rising n }
 {
     if impossible(g, room) {
-        return 12;
+        return Err(Refusal::Record);
     }
     if !rising {
-        return 3;
+        return Err(Refusal::Order);
     }
-    if too_many(g, n) { 2 } else { 0 }
+    if too_many(g, n) {
+        return Err(Refusal::RowCount);
+    }
+    Ok(())
 }
 
 // Test 11.
-fn late(after: Gatherer, room: usize) -> u8
-    ensures { result ≡ late after room }
+#[tactic(auto, unfolding(crate::specs::Gather::late, model::specs::Tests::pick))]
+fn late(after: Gatherer, room: usize) -> Result<(), Refusal>
+    ensures { number_in result ≡ late after room }
 {
-    if room < after.entries { 11 } else { 0 }
+    if room < after.entries {
+        Err(Refusal::Table)
+    } else {
+        Ok(())
+    }
 }
 
 // Whether a row joins the last seed.
+#[tactic(auto, unfolding(crate::specs::Gather::joins, model::specs::Tests::pick))]
 fn joins(g: Gatherer, row: u64) -> bool
     ensures { result ≡ joins g row }
 {
-    if g.rows == 0 {
-        return false;
-    }
-    row / 4096 == g.first / 4096
+    g.rows != 0 && row / 4096 == g.first / 4096
 }
 
 // The record with a row in.
+#[tactic(auto, unfolding(crate::specs::Gather::added, model::specs::Tests::pick))]
 fn added(g: Gatherer, row: u64) -> Gatherer
     requires { Counted g 1 }
     ensures { result ≡ added g row }
 {
-    let entries = g.entries;
-    let total = g.rows + 1;
+    let rows = g.rows + 1;
     if joins(g, row) {
         Gatherer {
-            entries: entries,
-            rows: total,
-            first: g.first,
+            rows,
             last: row,
+            ..g
         }
     } else {
         Gatherer {
-            entries: entries + 1,
-            rows: total,
+            entries: g.entries + 1,
+            rows,
             first: row,
             last: row,
         }
     }
 }
 
-// The number of a refusal of a single row, or 0.
-pub fn row_number(g: Gatherer, room: usize, row: u64) -> u8
-    ensures { result ≡ row_number g room row }
+// Whether a single row goes in, and where it does not, why.
+#[tactic(auto, unfolding(crate::specs::Gather::row_number, crate::specs::Gather::or_else))]
+pub fn row_fits(g: Gatherer, room: usize, row: u64) -> Result<(), Refusal>
+    ensures { number_in result ≡ row_number g room row }
 {
-    let k = early(g, room, above(g, row), 1);
-    if k != 0 {
-        return k;
-    }
+    early(g, room, above(g, row), 1)?;
     late(added(g, row), room)
 }
 

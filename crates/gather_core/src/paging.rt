@@ -1,10 +1,13 @@
 // Pages of rows: each is one seed where its rows are close enough, or goes in row by row.
 ghost use Rattle.std.specs.Prelude.{◌≡◌, ◌<◌, ◌≤◌, true, length};
+ghost use Rattle.model.specs.Refusals.{number_in};
 ghost use Rattle.gather_core.specs.Gather.{rises, one_seed, added_all, added_all_to, seeded, paged, paged_to, some_number, Counted, Paging};
 
-use crate::{Gatherer, above, added, early, end_of, late, put_row, rises, too_many};
+use crate::{Gatherer, above, added, early, end_of, late, put_row, rises};
+use model::Refusal;
 
 // Whether a page that is not empty, and whose rows rise, is one seed.
+#[tactic(auto, using(crate::proofs::Climbing::rises_ends), unfolding(crate::specs::Gather::one_seed))]
 fn one_seed(rows: &[u64]) -> bool
     requires { (0 < length rows.now) × (rises rows.now ≡ true) }
     ensures { result ≡ one_seed rows.now }
@@ -18,10 +21,8 @@ fn added_all(g: Gatherer, rows: &[u64]) -> Gatherer
     ensures { result ≡ added_all g rows.now }
 {
     let mut h = g;
-    let mut i = 0;
-    while i < rows.len() {
-        h = added(h, rows[i]);
-        i += 1;
+    for row in rows {
+        h = added(h, *row);
     }
     h
 }
@@ -32,15 +33,14 @@ fn put_rows(g: Gatherer, table: &mut [u16], rows: &[u64]) -> Gatherer
     ensures { (result ≡ added_all g rows.now) × (table.new ≡ added_all_to table.old g rows.now) }
 {
     let mut h = g;
-    let mut i = 0;
-    while i < rows.len() {
-        h = put_row(h, table, rows[i]);
-        i += 1;
+    for row in rows {
+        h = put_row(h, table, *row);
     }
     h
 }
 
 // The record with a page in that is one seed.
+#[tactic(auto, unfolding(crate::specs::Gather::seeded))]
 fn seeded(g: Gatherer, rows: &[u64]) -> Gatherer
     requires { Counted g (length rows.now) × (0 < length rows.now) }
     ensures { result ≡ seeded g rows.now }
@@ -55,6 +55,7 @@ fn seeded(g: Gatherer, rows: &[u64]) -> Gatherer
 }
 
 // The record with a page in that is not empty, and whose rows rise.
+#[tactic(auto, unfolding(crate::specs::Gather::paged, model::specs::Tests::pick))]
 fn paged(g: Gatherer, rows: &[u64]) -> Gatherer
     requires { Counted g (length rows.now) × (0 < length rows.now) × (rises rows.now ≡ true) }
     ensures { result ≡ paged g rows.now }
@@ -66,18 +67,15 @@ fn paged(g: Gatherer, rows: &[u64]) -> Gatherer
     }
 }
 
-// The number of a refusal of a page that is not empty, or 0. Where there is room for a seed of each row, none are counted.
-pub fn some_number(g: Gatherer, room: usize, rows: &[u64]) -> u8
+// Whether a page that is not empty goes in, and where it does not, why. Where there is room for a seed of each row, none are counted.
+#[tactic(auto, unfolding(crate::specs::Gather::some_number, crate::specs::Gather::or_else))]
+pub fn page_fits(g: Gatherer, room: usize, rows: &[u64]) -> Result<(), Refusal>
     requires { 0 < length rows.now }
-    ensures { result ≡ some_number g room rows.now }
+    ensures { number_in result ≡ some_number g room rows.now }
 {
-    let rising = above(g, rows[0]) & rises(rows);
-    let k = early(g, room, rising, rows.len());
-    if k != 0 {
-        return k;
-    }
+    early(g, room, above(g, rows[0]) & rises(rows), rows.len())?;
     if rows.len() <= room - g.entries {
-        return 0;
+        return Ok(());
     }
     late(paged(g, rows), room)
 }

@@ -12,12 +12,9 @@ fn steps(first: u64, rows: &[u64], from: usize) -> u64
 {
     let mut least = u64::MAX;
     let mut before = first;
-    let mut i = from;
-    while i < rows.len() {
-        let row = rows[i];
-        least = least & std::num::wrapping_sub_u64(before, row);
-        before = row;
-        i += 1;
+    for row in &rows[from..] {
+        least &= before.wrapping_sub(*row);
+        before = *row;
     }
     least
 }
@@ -29,39 +26,16 @@ pub fn rises_closely(first: u64, rows: &[u64], from: usize) -> bool
     requires { (from ≤ length rows.now) × (0 < length rows.now) }
     ensures { result ≡ true → rises (first ∷ drop from rows.now) ≡ true }
 {
-    let n = rows.len();
-    if 65535 < n {
-        return false;
-    }
-    if steps(first, rows, from) < 18446462598732840960 {
-        return false;
-    }
-    first <= rows[n - 1]
-}
-
-// One row after the other.
-fn rises_singly(rows: &[u64]) -> bool
-    ensures { result ≡ rises rows.now }
-{
-    let mut i = 0;
-    while i + 1 < rows.len() {
-        if rows[i + 1] <= rows[i] {
-            return false;
-        }
-        i += 1;
-    }
-    true
+    let few = rows.len() <= 65535;
+    few && 18446462598732840960 <= steps(first, rows, from) && first <= rows[rows.len() - 1]
 }
 
 // Whether rows rise strictly.
 pub fn rises(rows: &[u64]) -> bool
     ensures { result ≡ rises rows.now }
 {
-    if rows.len() == 0 {
-        return true;
+    match rows.first() {
+        None => true,
+        Some(first) => rises_closely(*first, rows, 1) || rows.is_sorted_by(|a, b| a < b),
     }
-    if rises_closely(rows[0], rows, 1) {
-        return true;
-    }
-    rises_singly(rows)
 }

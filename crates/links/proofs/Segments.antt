@@ -8,9 +8,9 @@ use native.Mathlib.Nat.{add-zero, add-suc}
 use native.Mathlib.Numerals.{add-one}
 use native.Mathlib.Omega.{arith}
 use lib.Dec.{eqb, leb}
-use borrow.Author.Tests.{leb-true, leb-false, le-leb, lt-leb}
-use Rattle.model.specs.Tests.{both, pick}
-use Rattle.model.proofs.Tests.{pick_most, both_left, both_right, both_true, both_first, either, never}
+use borrow.Author.Tests.{leb-true, leb-false, le-leb}
+use Rattle.model.specs.Tests.{pick}
+use Rattle.model.proofs.Tests.{pick_most, both_left, both_right, both_true, either, never}
 use Rattle.stats.specs.declared.Stats.{Stats}
 use Rattle.stats.specs.Statistics.{Sound, Neighbours, joined, span_of}
 use Rattle.stats.proofs.Joining.{joined-sound}
@@ -109,14 +109,6 @@ saves_small a b k e =
     omega (arith, local_short a (omega (arith, k.apart)), local_short b (omega (arith, k.apart)))
 
 -- ---- what the code computes
-
-pub admits_long : (a b : Stats) → 65535 < span_of (joined a b) → admits a b ≡ false
-unfolding admits
-admits_long a b h = both_first _ _ (lt-leb _ _ h)
-
-pub admits_by : (a b : Stats) → span_of (joined a b) ≤ 65535 → leb (payload (joined a b)) (16 + payload a + payload b) ≡ admits a b
-unfolding admits both
-admits_by a b h = rw (le-leb _ _ h)
 
 pub join_sound : (a b j : Stats) → j ≡ joined a b → Neighbours a b → Sound j
 join_sound a b j e k = rw e (joined-sound a b k)

@@ -20,16 +20,17 @@ pub struct Pair {
 }
 
 // An offer as one number: the greater one saves more, or as much from further left.
-pub fn encode(saving: u64, left: usize, middle: usize, right: usize) -> u64
-    requires { (saving < 32768) × (left < 65536) × (middle < 65536) × (right < 65536) }
-    ensures { result ≡ code saving left middle right }
+pub fn encode(saving: u64, p: Pair) -> u64
+    requires { (saving < 32768) × (p.left < 65536) × (p.middle < 65536) × (p.right < 65536) }
+    ensures { result ≡ code saving p.left p.middle p.right }
 {
     saving * 281474976710656
-        + (65535 - left as u64) * 4294967296
-        + middle as u64 * 65536
-        + right as u64
+        + (65535 - p.left as u64) * 4294967296
+        + p.middle as u64 * 65536
+        + p.right as u64
 }
 
+#[tactic(auto, unfolding(crate::specs::Keys::pair_of))]
 pub fn decode(k: u64) -> Pair
     ensures { result ≡ pair_of k }
 {
@@ -41,15 +42,14 @@ pub fn decode(k: u64) -> Pair
 }
 
 // Whether two neighbouring segments may be joined: a saving of nothing is enough.
+#[tactic(auto, unfolding(crate::specs::Pairs::admits, model::specs::Tests::both))]
 pub fn admitted(a: stats::Stats, b: stats::Stats) -> bool
     requires { Neighbours a b }
     ensures { result ≡ admits a b }
 {
     let whole = stats::join(a, b);
-    if 65535 <= whole.last - whole.first {
-        return false;
-    }
-    cost::payload(whole) <= 16 + cost::payload(a) + cost::payload(b)
+    whole.last - whole.first < 65535
+        && cost::payload(whole) <= 16 + cost::payload(a) + cost::payload(b)
 }
 
 // What joining them saves: a directory entry and two payloads for one.
@@ -61,20 +61,16 @@ pub fn saving(a: stats::Stats, b: stats::Stats) -> u64
     16 + cost::payload(a) + cost::payload(b) - cost::payload(stats::join(a, b))
 }
 
-fn wide(x: u32) -> usize
-    ensures { (result ≡ x) × (result < 4294967296) }
-{
-    x as usize
-}
-
 // Word k of the record of the cut x.
+#[tactic(auto, unfolding(crate::specs::Tables::field))]
 pub fn cell(w: &[u32], x: usize, k: usize) -> usize
     requires { x * 8 + k < length w.now }
     ensures { (result ≡ field w.now x k) × (result < 4294967296) }
 {
-    wide(w[x * 8 + k])
+    w[x * 8 + k] as usize
 }
 
+#[tactic(auto, unfolding(crate::specs::Tables::put))]
 fn put(w: &mut [u32], x: usize, k: usize, v: u32)
     requires { x * 8 + k < length w.old }
     ensures { w.new ≡ put w.old x k v }
@@ -91,6 +87,7 @@ pub fn next(w: &[u32], x: usize) -> usize
 }
 
 // The statistics of the segment that starts at x.
+#[tactic(auto, unfolding(crate::specs::Tables::stat_at, crate::specs::Tables::field))]
 pub fn segment(w: &[u32], x: usize) -> stats::Stats
     requires { x * 8 + 8 ≤ length w.now }
     ensures { result ≡ stat_at w.now x }
@@ -103,6 +100,7 @@ pub fn segment(w: &[u32], x: usize) -> stats::Stats
     }
 }
 
+#[tactic(auto, unfolding(crate::specs::Tables::put_stat))]
 pub fn put_segment(w: &mut [u32], x: usize, s: stats::Stats)
     requires { x * 8 + 8 ≤ length w.old }
     ensures { w.new ≡ put_stat w.old x s }
@@ -113,25 +111,25 @@ pub fn put_segment(w: &mut [u32], x: usize, s: stats::Stats)
     put(w, x, 5, s.runs);
 }
 
-// Takes the cut m out: one segment from l to r, with the statistics s.
-pub fn link(w: &mut [u32], l: usize, m: usize, r: usize, s: stats::Stats)
-    requires { (l < m) × (m < r) × (r < 65536) × (r * 8 + 8 ≤ length w.old) }
-    ensures { w.new ≡ linked l m r s w.old }
+// Takes the cut in the middle out: one segment, with the statistics s.
+#[tactic(auto, unfolding(crate::specs::Tables::linked))]
+pub fn link(w: &mut [u32], p: Pair, s: stats::Stats)
+    requires { (p.left < p.middle) × (p.middle < p.right) × (p.right < 65536) × (p.right * 8 + 8 ≤ length w.old) }
+    ensures { w.new ≡ linked p.left p.middle p.right s w.old }
 {
-    put(w, l, 0, r as u32);
-    put(w, m, 0, 0);
-    put(w, r, 1, l as u32);
-    put_segment(w, l, s);
+    put(w, p.left, 0, p.right as u32);
+    put(w, p.middle, 0, 0);
+    put(w, p.right, 1, p.left as u32);
+    put_segment(w, p.left, s);
 }
 
-// Whether the segments from l to m and from m to r are still there.
-pub fn live(w: &[u32], l: usize, m: usize, r: usize) -> bool
-    requires { (l * 8 + 8 ≤ length w.now) × (m * 8 + 8 ≤ length w.now) }
-    ensures { result ≡ is_live w.now l m r }
+// Whether the two segments of a pair are still there.
+#[tactic(auto, unfolding(crate::specs::Tables::is_live, model::specs::Tests::both))]
+pub fn live(w: &[u32], p: Pair) -> bool
+    requires { (p.left * 8 + 8 ≤ length w.now) × (p.middle * 8 + 8 ≤ length w.now) }
+    ensures { result ≡ is_live w.now p.left p.middle p.right }
 {
-    let a = cell(w, l, 0);
-    let b = cell(w, m, 0);
-    (a == m) & (b == r)
+    next(w, p.left) == p.middle && next(w, p.middle) == p.right
 }
 
 // Makes each seed a segment of its own. The statistics are those that stand there.
@@ -139,24 +137,11 @@ pub fn start(w: &mut [u32], n: usize)
     requires { (n < 65536) × (base n ≤ length w.old) }
     ensures { Started n (records n w.old) (records n w.new) }
 {
-    let mut i = 0;
-    while i < n {
+    for i in 0..n {
         put(w, i, 0, (i + 1) as u32);
         put(w, i + 1, 1, i as u32);
-        i += 1;
     }
     put(w, n, 0, 0);
-}
-
-// Zeroes the words.
-fn wipe(a: &mut [u32])
-    ensures { a.new ≡ replicate (length a.old) 0 }
-{
-    let mut i = 0;
-    while i < a.len() {
-        a[i] = 0;
-        i += 1;
-    }
 }
 
 // Zeroes the words that planning over n seeds may have used, 24 for each, and leaves the rest.
@@ -164,6 +149,5 @@ pub fn clear(w: &mut [u32], n: usize)
     requires { n * 24 ≤ length w.old }
     ensures { w.new ≡ over (replicate (n * 24) 0) w.old }
 {
-    let end = n * 24;
-    wipe(&mut w[0..end]);
+    w[..n * 24].fill(0);
 }

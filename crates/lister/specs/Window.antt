@@ -3,21 +3,9 @@
 use Rattle.std.specs.Prelude.{◌≡◌, Bool, true, false, List, ℕ, ◌+◌, ◌-◌, ◌≤◌, ◌<◌, length, get_or}
 use Rattle.listing.specs.declared.records.Next.{Next}
 use Rattle.listing.specs.declared.records.Next.TheVariants.{Record, Broken, More}
-use Rattle.listing.specs.Records.{next_of}
 use Rattle.lister.specs.declared.Stand.{Stand}
 
--- the bytes of a whole record, with those of its length, and 0 for anything else
-unfoldable pub whole_of : Next → ℕ
-whole_of (Record n) = n + 4
-whole_of Broken = 0
-whole_of More = 0
-
--- n is that of the record in front of xs, so it lies inside
-pub record Whole (xs : List ℕ) (n : ℕ) : Type 0 where
-  pub is : n ≡ whole_of (next_of xs)
-  pub inside : n ≤ length xs
-
--- whether it is no record that waits for its bytes
+-- whether what stands in front is no record that waits for its bytes
 unfoldable pub stops_of : Next → Bool
 stops_of (Record n) = true
 stops_of Broken = true

@@ -7,70 +7,38 @@
 #![tactic(auto)]
 
 ghost use Rattle.std.specs.Prelude.{◌≡◌, ◌+◌, ◌-◌, ◌≤◌, ◌<◌, length};
-ghost use Rattle.lister.specs.Window.{Whole, Listed, Slid, stops_of};
+ghost use Rattle.lister.specs.Window.{Listed, Slid, stops_of};
 
 use listing::{Line, Next, line_of, next_in, put_header, put_line};
-use std::io::{Read, Stderr, Stdin, Stdout};
+use std::io::{self, Read, Stdin, Stdout};
 
-// Text that waits, and whether every write was taken.
-#[derive(Clone, Copy)]
+// Text that waits, and what came of the write that made room for it. A turn goes on after a write that failed: only then is it said.
+#[derive(Drop)]
 struct Text {
     at: usize,
-    good: bool,
+    written: io::Result<()>,
 }
 
 // Records are listed up to byte lo, k of them in all.
-#[derive(Clone, Copy)]
+#[derive(Drop)]
 struct Stand {
     lo: usize,
     at: usize,
     k: u64,
-    good: bool,
-}
-
-fn window() -> [u8; 131072]
-    ensures { 131072 ≡ length result }
-{
-    [0; 131072]
-}
-
-fn text_space() -> [u8; 65536]
-    ensures { 65536 ≡ length result }
-{
-    [0; 65536]
-}
-
-// The bytes of the whole record in front, with those of its length, and 0 where there is none.
-fn whole(b: &[u8]) -> usize
-    ensures { Whole b.now result }
-{
-    match next_in(b) {
-        Next::Record(n) => n + 4,
-        Next::Broken => 0,
-        Next::More => 0,
-    }
+    written: io::Result<()>,
 }
 
 // Whether more input would change nothing: what stands in front is no record that waits for its bytes.
+#[tactic(auto, unfolding(crate::specs::Window::stops_of))]
 fn stops(next: Next) -> bool
     ensures { result ≡ stops_of next }
 {
-    match next {
-        Next::Record(_) => true,
-        Next::Broken => true,
-        Next::More => false,
-    }
+    !matches!(next, Next::More)
 }
 
 // The last line where the input ends with `left` bytes of a record that is not whole.
 fn last(left: usize) -> Line {
     if left == 0 { Line::End } else { Line::Broken }
-}
-
-fn flush(stdout: Stdout, out: &[u8], at: usize) -> bool
-    requires { at ≤ length out.now }
-{
-    stdout.write_all(&out[..at]).is_ok()
 }
 
 // Room for one more line.
@@ -82,10 +50,13 @@ fn room(stdout: Stdout, out: &[u8], at: usize) -> Text
     if out.len() - at < 128 {
         return Text {
             at: 0,
-            good: flush(stdout, out, at),
+            written: stdout.write_all(&out[..at]),
         };
     }
-    Text { at: at, good: true }
+    Text {
+        at,
+        written: Ok(()),
+    }
 }
 
 // One read into buf from `at` on. There is room, so that 0 means the end.
@@ -93,10 +64,7 @@ fn read_some(mut stdin: Stdin, buf: &mut [u8], at: usize) -> usize
     requires { at < length buf.old }
     ensures { at + result ≤ length buf.old }
 {
-    match stdin.read(&mut buf[at..]) {
-        Ok(n) => n,
-        Err(_) => 0,
-    }
+    stdin.read(&mut buf[at..]).unwrap_or(0)
 }
 
 // The bytes lo..hi of buf, to its front.
@@ -104,12 +72,7 @@ fn slide(buf: &mut [u8], lo: usize, hi: usize)
     requires { (lo ≤ hi) × (hi ≤ length buf.old) }
     ensures { Slid buf.old lo hi buf.new }
 {
-    let n = hi - lo;
-    let mut i: usize = 0;
-    while i < n {
-        buf[i] = buf[lo + i];
-        i += 1;
-    }
+    buf.copy_within(lo..hi, 0);
 }
 
 // The bytes lo..hi of buf to its front, and more behind them.
@@ -123,6 +86,7 @@ fn refill(stdin: Stdin, buf: &mut [u8], lo: usize, hi: usize) -> usize
 }
 
 // Lists the whole records at lo..hi.
+#[tactic(auto, using(crate::proofs::Laws::record_within))]
 fn list_some(
     stdout: Stdout,
     buf: &[u8],
@@ -140,42 +104,37 @@ fn list_some(
     let mut lo = from;
     let mut at = waiting;
     let mut k = before;
-    let mut good = true;
-    let mut n = whole(&buf[lo..hi]);
-    while 4 < n {
+    let mut written = Ok(());
+    while let Next::Record(n) = next_in(&buf[lo..hi]) {
         let text = room(stdout, out, at);
-        good = good & text.good;
-        at = put_line(out, text.at, line_of(&buf[lo + 4..lo + n]), k);
-        lo += n;
+        written = written.and(text.written);
+        let end = lo + 4 + n;
+        at = put_line(out, text.at, line_of(&buf[lo + 4..end]), k);
+        lo = end;
         k += 1;
-        n = whole(&buf[lo..hi]);
     }
-    Stand {
-        lo: lo,
-        at: at,
-        k: k,
-        good: good,
-    }
+    Stand { lo, at, k, written }
 }
 
-fn fail(stderr: Stderr) {
-    let _ = eprintln!(stderr; "lister: standard output takes no more");
-}
-
-fn finish(rt: HostRuntime, out: &mut [u8], at: usize, line: Line, k: u64)
+// The last line, and all that waits.
+fn finish(stdout: Stdout, out: &mut [u8], at: usize, line: Line, k: u64) -> io::Result<()>
     requires at_in_bounds { at ≤ length out.old }
     requires in_bounds { 128 ≤ length out.old }
 {
-    let text = room(rt.stdout(), out, at);
+    let text = room(stdout, out, at);
     let end = put_line(out, text.at, line, k);
-    if !(text.good & flush(rt.stdout(), out, end)) {
-        fail(rt.stderr());
-    }
+    stdout.write_all(&out[..end]).and(text.written)
 }
 
 // Lists everything after the version byte; `got` bytes are read. A proved loop has to end, and nothing says that the input does:
 // `total` counts the bytes read, and where it comes near 2^64 the listing breaks off as if the input stopped there.
-fn list_all(rt: HostRuntime, buf: &mut [u8], got: usize, out: &mut [u8], waiting: usize)
+fn list_all(
+    rt: HostRuntime,
+    buf: &mut [u8],
+    got: usize,
+    out: &mut [u8],
+    waiting: usize,
+) -> io::Result<()>
     requires value { 131072 ≡ length buf.old }
     requires le_got { (1 ≤ got) × (got ≤ length buf.old) }
     requires waiting_in_bounds { (waiting ≤ length out.old) × (128 ≤ length out.old) }
@@ -189,42 +148,38 @@ fn list_all(rt: HostRuntime, buf: &mut [u8], got: usize, out: &mut [u8], waiting
         let s = list_some(rt.stdout(), buf, lo, hi, out, at, k);
         let used = s.lo;
         k = s.k;
-        if !(flush(rt.stdout(), out, s.at) & s.good) {
-            fail(rt.stderr());
-            return;
-        }
+        rt.stdout().write_all(&out[..s.at]).and(s.written)?;
         if stops(next_in(&buf[used..hi])) {
-            finish(rt, out, 0, Line::Broken, k);
-            return;
+            return finish(rt.stdout(), out, 0, Line::Broken, k);
         }
         let more = refill(rt.stdin(), buf, used, hi);
         hi -= used;
         if more == 0 {
-            finish(rt, out, 0, last(hi), k);
-            return;
+            return finish(rt.stdout(), out, 0, last(hi), k);
         }
         lo = 0;
         at = 0;
         hi += more;
         total += more as u64;
     }
-    finish(rt, out, at, Line::Broken, k);
+    finish(rt.stdout(), out, at, Line::Broken, k)
 }
 
-fn main(rt: HostRuntime) {
-    let mut space = window();
+fn list(rt: HostRuntime) -> io::Result<()> {
+    let mut space = [0u8; 131072];
     let buf: &mut [u8] = &mut space;
-    let mut text = text_space();
+    let mut text = [0u8; 65536];
     let out: &mut [u8] = &mut text;
     let at = put_header(out, 0);
     let got = read_some(rt.stdin(), buf, 0);
-    if got == 0 {
-        finish(rt, out, at, Line::Version, 0);
-        return;
+    if got == 0 || buf[0] != 1 {
+        return finish(rt.stdout(), out, at, Line::Version, 0);
     }
-    if buf[0] != 1 {
-        finish(rt, out, at, Line::Version, 0);
-        return;
+    list_all(rt, buf, got, out, at)
+}
+
+fn main(rt: HostRuntime) {
+    if list(rt).is_err() {
+        let _ = eprintln!(rt; "lister: standard output takes no more");
     }
-    list_all(rt, buf, got, out, at);
 }

@@ -3,17 +3,20 @@
 use mathlib.Core.Path.{◌≡◌, refl, sym, ap, ◌∙◌}
 use mathlib.Core.Logic.{⊎_elim}
 use mathlib.Core.List.{List, [], ◌∷◌, ◌++◌}
-use Prim.Native.Nat.{ℕ, zero, suc, ◌+◌, ◌-◌, ◌/◌, ◌%◌, ◌^◌, ◌<◌, ◌≤◌}
+use Prim.Native.Nat.{ℕ, zero, suc, ◌+◌, ◌-◌, ◌*◌, ◌/◌, ◌%◌, ◌^◌, ◌<◌, ◌≤◌}
 use native.Mathlib.Nat.{pow-zero, pow-succ', le_refl}
 use native.Mathlib.Numerals.{add-one}
 use native.Mathlib.Omega.{arith}
 use lib.Dec.{eqb}
-use lib.ListN.{length, get_or, set, take, length-append, length-set}
+use lib.ListN.{length, set, length-append, length-set}
 use lib.Seq.{sets, set_comm, take_all}
+use borrow.Rule.Slice.PartMut.{put_mid}
+use Rattle.std.proofs.lemmas.List.Edits.{sets-eq}
+use Rattle.std.proofs.lemmas.Slice.{put_mid-paste}
 use borrow.Author.Tests.{eq-eqb, ne_eqb}
 use Rattle.model.specs.Tests.{pick}
 use Rattle.model.proofs.Tests.{either}
-use Rattle.model.proofs.Sets.{sets-append, sets-next}
+use Rattle.model.proofs.Sets.{sets-append}
 use Rattle.listing.specs.Text.{Put, digits, decimal, places}
 
 -- ---- stores
@@ -78,6 +81,14 @@ unfolding digits pick
 digits_none zero n e = refl
 digits_none (suc f) n e = rw (eq-eqb n 0 e)
 
+-- a number below ten to the f has no more than f digits
+pub digits_enough : (f n : ℕ) → n < 10 ^ f → digits (suc f) n ≡ digits f n
+unfolding digits pick
+digits_enough zero n h = digits_none 1 n (omega (arith, rw pow-zero at h))
+digits_enough (suc f) n h =
+    let b : n / 10 < 10 ^ f = omega (arith, rw pow-succ' at h) in
+    ⊎_elim (λ e. rw e) (λ e. rw (e, digits_enough f (n / 10) b)) (either (eqb n 0))
+
 pub digits_short : (f n : ℕ) → length (digits f n) ≤ f
 unfolding digits pick
 digits_short zero n = omega arith
@@ -90,39 +101,33 @@ pub decimal_short : (n : ℕ) → length (decimal n) ≤ 20
 unfolding decimal
 decimal_short n = omega (arith, length-append (digits 19 (n / 10)) ((48 + n % 10) ∷ []), digits_short 19 (n / 10))
 
--- a number below ten to the f has no more than f digits
-pub digits_enough : (f n : ℕ) → n < 10 ^ f → digits (suc f) n ≡ digits f n
+tens_some : (k : ℕ) → 0 < 10 ^ k
+tens_some zero = rw pow-zero (omega arith)
+tens_some (suc k) = rw pow-succ' (omega (arith, tens_some k))
+
+-- a number from ten to the k on, and below the next power, has k + 1 digits
+pub digits_length : (f k n : ℕ) → k < f → 10 ^ k ≤ n → n < 10 * 10 ^ k → length (digits f n) ≡ k + 1
 unfolding digits pick
-digits_enough zero n h = digits_none 1 n (omega (arith, rw pow-zero at h))
-digits_enough (suc f) n h =
-    let b : n / 10 < 10 ^ f = omega (arith, rw pow-succ' at h) in
-    ⊎_elim (λ e. rw e) (λ e. rw (e, digits_enough f (n / 10) b)) (either (eqb n 0))
+digits_length zero k n h l m = absurd (omega arith)
+digits_length (suc f) zero n h l m =
+    let least : 1 ≤ n = rw pow-zero at l in
+    let most : n < 10 = omega (arith, pow-zero 10) in
+    rw (ne_eqb n 0 (λ e. omega arith), digits_none f (n / 10) (omega arith)) refl
+digits_length (suc f) (suc k) n h l m =
+    let least : 10 * 10 ^ k ≤ n = rw pow-succ' at l in
+    let most : n < 10 * (10 * 10 ^ k) = rw pow-succ' at m in
+    rw (ne_eqb n 0 (λ e. omega (arith, tens_some k)))
+    (omega (arith, length-append (digits f (n / 10)) ((48 + n % 10) ∷ []), digits_length f k (n / 10) (omega arith) (omega arith) (omega arith)))
 
--- one turn of the loop that counts digits
-pub digits_count : (f n : ℕ) → 0 < n → n < 10 ^ suc f → length (digits (suc f) n) ≡ suc (length (digits (suc f) (n / 10)))
-unfolding digits pick
-digits_count f n l h =
-    let b : n / 10 < 10 ^ f = omega (arith, rw pow-succ' at h) in
-    rw (ne_eqb n 0 (λ e. omega arith), digits_enough f (n / 10) b) (omega (arith, length-append (digits f (n / 10)) ((48 + n % 10) ∷ [])))
-
--- ---- the loop that counts digits: n are counted, and those of rest are left
-
-pub record Counting (v n rest : ℕ) : Type 0 where
-  pub counted : n + length (digits 19 rest) ≡ length (decimal v)
-  pub small : rest < 10 ^ 19
-  pub few : n ≤ 20
-
-pub counting_start : (v : ℕ) → v < 18446744073709551616 → Counting v 1 (v / 10)
+pub decimal_length : (k v : ℕ) → k < 20 → 10 ^ k ≤ v → v < 10 * 10 ^ k → k + 1 ≡ length (decimal v)
 unfolding decimal
-counting_start v h = record { counted = rw length-append (omega arith); small = omega arith; few = omega arith }
-
-pub counting_next : (v n rest : ℕ) → Counting v n rest → 0 < rest → Counting v (n + 1) (rest / 10)
-counting_next v n rest w h =
-    let more = digits_count 18 rest h w.small in
-    record { counted = omega (arith, w.counted, more); small = omega (arith, w.small); few = omega (arith, w.counted, more, decimal_short v) }
-
-pub counting_end : (v n rest : ℕ) → Counting v n rest → rest ≤ 0 → n ≡ length (decimal v)
-counting_end v n rest w h = omega (arith, w.counted, ap length (digits_none 19 rest (omega arith)))
+decimal_length zero v h l m =
+    let most : v < 10 = omega (arith, pow-zero 10) in
+    rw (digits_none 19 (v / 10) (omega arith)) refl
+decimal_length (suc k) v h l m =
+    let least : 10 * 10 ^ k ≤ v = rw pow-succ' at l in
+    let most : v < 10 * (10 * 10 ^ k) = rw pow-succ' at m in
+    omega (arith, length-append (digits 19 (v / 10)) ((48 + v % 10) ∷ []), digits_length 19 k (v / 10) (omega arith) (omega arith) (omega arith))
 
 -- ---- the loop that writes digits: what is left to write, over what is written, is the whole
 
@@ -150,23 +155,16 @@ unfolding places
 placing_end {left = zero} p h = p.whole
 placing_end {left = suc l} p h = absurd (omega arith)
 
--- ---- the loop that copies a word
+-- ---- a word that was copied
 
-pub record Copying (first : List ℕ) (at : ℕ) (word out : List ℕ) (i : ℕ) : Type 0 where
-  pub written : out ≡ sets first at (take i word)
-  pub inside : i ≤ length word
-  pub size : length out ≡ length first
-
-pub copying_next : {first word out : List ℕ} {at i : ℕ} → Copying first at word out i → i < length word → Copying first at word (set out (at + i) (get_or word i 0)) (i + 1)
-copying_next {first = first} {word = word} {out = out} {at = at} {i = i} p h =
+pub word-put : {before word now : List ℕ} {at : ℕ} → at + length word ≤ length before → now ≡ word → Put (length word) before at word (put_mid at (at + length word - at) before now) (at + length word)
+word-put {before} {word} {now} {at} h e =
+    let same : length word ≡ at + length word - at = omega arith in
     record {
-      written = rw p.written (sym (sets-next word first at i h));
-      inside = omega (arith, h);
-      size = rw length-set p.size;
+      written = put_mid-paste at (at + length word - at) before now word (length word) e same refl ∙ rw (take_all (length word) word (le_refl (length word))) (sym (sets-eq word before at h));
+      ends = refl;
+      short = le_refl (length word);
     }
-
-pub copying_end : {first word out : List ℕ} {at i : ℕ} → Copying first at word out i → length word ≤ i → Put (length word) first at word out (at + length word)
-copying_end {word = word} {i = i} p h = record { written = rw (take_all i word h) at p.written; ends = refl; short = le_refl (length word) }
 
 -- ---- a number, once its digits are counted and written
 

@@ -1,9 +1,9 @@
 // A record of the input: its length, and which line it gets.
-ghost use Rattle.std.specs.Prelude.{◌≡◌, ◌+◌, ◌*◌, ◌≤◌, length};
+ghost use Rattle.std.specs.Prelude.{◌≡◌, ◌+◌, ◌≤◌, length};
 ghost use Rattle.rowset.specs.Calls.{checked_of};
 ghost use Rattle.listing.specs.Records.{be, sized, next_after, next_of, figures_of, answer_line, line_of};
 
-use rowset::{Checked, validate};
+use rowset::{Refusal, validate};
 
 // The figures of an accepted record.
 #[derive(Clone, Copy)]
@@ -34,44 +34,38 @@ pub enum Next {
     More,
 }
 
-// The number of four bytes, the most significant first: a function of bytes and not of a slice, so that the caller's proof
-// asks nothing of their sizes.
-fn join32(a: u8, b: u8, c: u8, d: u8) -> u32
-    ensures { result ≡ 256 * (256 * (256 * a + b) + c) + d }
-{
-    256 * (256 * (256 * (a as u32) + (b as u32)) + (c as u32)) + (d as u32)
-}
-
+// The number of four bytes, the most significant first.
+#[tactic(auto, unfolding(crate::specs::Records::be))]
 fn big32(b: &[u8], at: usize) -> u32
     requires { at + 4 ≤ length b.now }
     ensures { result ≡ be 4 b.now at }
 {
-    join32(b[at], b[at + 1], b[at + 2], b[at + 3])
+    u32::from_be_bytes([b[at], b[at + 1], b[at + 2], b[at + 3]])
 }
 
 // Whether a record can have n bytes after its length: 5 of tag and span, and a body of at most 65,535.
+#[tactic(auto, unfolding(crate::specs::Records::sized, model::specs::Tests::both))]
 fn is_sized(n: usize) -> bool
     ensures { result ≡ sized n }
 {
-    if n < 5 {
-        return false;
-    }
-    n <= 65540
+    5 <= n && n <= 65540
 }
 
 // With n the length that was read, and `have` bytes after it at hand.
+#[tactic(auto, unfolding(crate::specs::Records::next_after, model::specs::Tests::pick))]
 fn next_after(have: usize, n: usize) -> Next
     ensures { result ≡ next_after have n }
 {
-    if is_sized(n) {
-        if have < n {
-            return Next::More;
-        }
-        return Next::Record(n);
+    if !is_sized(n) {
+        Next::Broken
+    } else if have < n {
+        Next::More
+    } else {
+        Next::Record(n)
     }
-    Next::Broken
 }
 
+#[tactic(auto, unfolding(crate::specs::Records::next_of, model::specs::Tests::pick))]
 pub fn next_in(b: &[u8]) -> Next
     ensures { result ≡ next_of b.now }
 {
@@ -82,38 +76,41 @@ pub fn next_in(b: &[u8]) -> Next
 }
 
 // The one place where figures are computed.
+#[tactic(auto, unfolding(crate::specs::Records::figures_of))]
 fn figures_of(tag: u8, span: u32, rows: u16, bytes: u32) -> Figures
     ensures { result ≡ figures_of tag span rows bytes }
 {
-    let count = rows as u32;
-    let holes = if count < span { span - count } else { 0 };
+    let count = u32::from(rows);
+    let holes = span.saturating_sub(count);
     Figures {
-        tag: tag,
-        span: span,
-        rows: rows,
-        holes: holes,
-        bytes: bytes,
+        tag,
+        span,
+        rows,
+        holes,
+        bytes,
     }
 }
 
-fn answered(tag: u8, span: u32, bytes: u32, checked: Checked) -> Line
+#[tactic(auto, unfolding(crate::specs::Records::answer_line, rowset::specs::Calls::checked_of, model::specs::Tests::pick))]
+fn answered(tag: u8, span: u32, bytes: u32, checked: Result<u16, Refusal>) -> Line
     ensures { result ≡ answer_line tag span bytes (checked_of checked) }
 {
     match checked {
-        Checked::Rows(n) => Line::Listed(figures_of(tag, span, n, bytes)),
-        Checked::Refused => Line::Refused,
+        Ok(rows) => Line::Listed(figures_of(tag, span, rows, bytes)),
+        Err(_) => Line::Refused,
     }
 }
 
 // The line of one record, from the bytes after its length.
+#[tactic(auto, using(crate::proofs::Sizes::sized_bounds, model::proofs::Taking::tail_is), unfolding(crate::specs::Records::line_of, model::specs::Tests::pick))]
 pub fn line_of(b: &[u8]) -> Line
     ensures { result ≡ line_of b.now }
 {
     let n = b.len();
-    if is_sized(n) {
-        let tag = b[0];
-        let span = big32(b, 1);
-        return answered(tag, span, (n - 5) as u32, validate(tag, span, &b[5..]));
+    if !is_sized(n) {
+        return Line::Broken;
     }
-    Line::Broken
+    let tag = b[0];
+    let span = big32(b, 1);
+    answered(tag, span, (n - 5) as u32, validate(tag, span, &b[5..]))
 }

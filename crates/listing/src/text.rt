@@ -6,16 +6,14 @@ ghost use Rattle.listing.specs.Text.{Put, ascii, decimal, places, figures_text, 
 use crate::records::{Figures, Line};
 
 // How many digits v has, 1 to 20.
+#[tactic(auto, using(crate::proofs::Spelling::decimal_length, crate::proofs::Spelling::digits_none), unfolding(crate::specs::Text::decimal))]
 fn width(v: u64) -> usize
     ensures { result ≡ length (decimal v) }
 {
-    let mut n: usize = 1;
-    let mut rest = v / 10;
-    while 0 < rest {
-        rest /= 10;
-        n += 1;
+    match v.checked_ilog10() {
+        Some(k) => k as usize + 1,
+        None => 1,
     }
-    n
 }
 
 fn digit(v: u64) -> u8
@@ -29,15 +27,14 @@ fn put_places(out: &mut [u8], at: usize, n: usize, v: u64)
     requires { at + n ≤ length out.old }
     ensures { out.new ≡ sets out.old at (places n v) }
 {
-    let mut left = n;
     let mut rest = v;
-    while 0 < left {
-        left -= 1;
+    for left in (0..n).rev() {
         out[at + left] = digit(rest);
         rest /= 10;
     }
 }
 
+#[tactic(auto, using(crate::proofs::Spelling::decimal_short))]
 fn put_decimal(out: &mut [u8], at: usize, v: u64) -> usize
     requires { at + 20 ≤ length out.old }
     ensures { Put 20 out.old at (decimal v) out.new result }
@@ -60,24 +57,20 @@ fn put_word(out: &mut [u8], at: usize, word: &[u8]) -> usize
     requires { at + length word.now ≤ length out.old }
     ensures { Put (length word.now) out.old at word.now out.new result }
 {
-    let n = word.len();
-    let mut i: usize = 0;
-    while i < n {
-        out[at + i] = word[i];
-        i += 1;
-    }
-    at + n
+    let end = at + word.len();
+    out[at..end].copy_from_slice(word);
+    end
 }
 
 fn put_figures(out: &mut [u8], at: usize, f: Figures) -> usize
     requires { at + 105 ≤ length out.old }
     ensures { Put 105 out.old at (figures_text f) out.new result }
 {
-    let tag = put_spaced(out, at, f.tag as u64);
-    let span = put_spaced(out, tag, f.span as u64);
-    let rows = put_spaced(out, span, f.rows as u64);
-    let holes = put_spaced(out, rows, f.holes as u64);
-    put_spaced(out, holes, f.bytes as u64)
+    let tag = put_spaced(out, at, u64::from(f.tag));
+    let span = put_spaced(out, tag, u64::from(f.span));
+    let rows = put_spaced(out, span, u64::from(f.rows));
+    let holes = put_spaced(out, rows, u64::from(f.holes));
+    put_spaced(out, holes, u64::from(f.bytes))
 }
 
 fn put_listed(out: &mut [u8], at: usize, f: Figures, k: u64) -> usize

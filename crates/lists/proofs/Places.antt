@@ -1,6 +1,9 @@
 -- Where a position stands: what the code answers of the search, and that it is right of the list.
 -- Assumes nothing.
-use Rattle.std.proofs.Common.{◌≡◌, ℕ, zero, suc, ◌-◌, ◌<◌, ◌≤◌, true, false, eqb, length, get_or, sym, ◌∙◌, ⊎_elim, eq-or-lt_of_le, arith, eq-eqb, ne_eqb}
+use Rattle.std.proofs.Common.{◌≡◌, ℕ, zero, suc, ◌-◌, ◌<◌, ◌≤◌, Bool, true, false, eqb, ltb, length, get_or, refl, sym, ◌∙◌, ⊎_elim, eq-or-lt_of_le, arith, eq-eqb, ne_eqb}
+use Rattle.std.specs.Int.{from_bool}
+use native.Mathlib.Nat.{sub-zero}
+use Rattle.model.specs.declared.Place.{Place}
 use Rattle.model.specs.Tests.{pick, tabulate}
 use Rattle.model.specs.Lists.{Rising, below, has, place_of}
 use Rattle.model.proofs.Tests.{either, same_or_not, pick_true, pick_false, length-tabulate, get_or-tabulate}
@@ -12,21 +15,24 @@ use Rattle.lists.specs.Lists.{place_at}
 
 -- ---- the code's answers: the search's answer k and, past 0, the value v before it
 
+-- the value before k is p or not
+told : (t : Bool) (k : ℕ) → ◌≡◌ {A = Place} (record { below = k - from_bool t; present = t }) (pick t (record { below = k - 1; present = true }) (record { below = k; present = false }))
+unfolding pick
+told true k = refl
+told false k = rw sub-zero
+
 module _ (f : ℕ → ℕ) (n p k : ℕ) (found : k ≡ find (up_to false f p) 0 n) where
   before : (j : ℕ) → 0 < j → place_at f p j ≡ pick (eqb (f (j - 1)) p) (record { below = j - 1; present = true }) (record { below = j; present = false })
   unfolding place_at
   before zero h = absurd (omega arith)
   before (suc j) h = let e : suc j - 1 ≡ j = omega arith in rw e
 
-  pub found_none : k ≡ 0 → record { below = 0; present = false } ≡ place_at f p (find (up_to false f p) 0 n)
+  pub found_none : {t : Bool} {d : ℕ} → k ≤ 0 → t ≡ ltb 0 k → d ≡ from_bool t → record { below = k - d; present = t } ≡ place_at f p (find (up_to false f p) 0 n)
   unfolding place_at
-  found_none z = rw (← found, z)
+  found_none h e q = let z : k ≡ 0 = omega arith in rw (q, e, ← found, z)
 
-  pub found_at : (v : ℕ) → (k ≡ 0 → ⊥) → v ≡ f (k - 1) → v ≡ p → record { below = k - 1; present = true } ≡ place_at f p (find (up_to false f p) 0 n)
-  found_at v z e q = rw (← found, before k (omega arith)) (sym (pick_true _ _ (eq-eqb (f (k - 1)) p (sym e ∙ q))))
-
-  pub found_past : (v : ℕ) → (k ≡ 0 → ⊥) → v ≡ f (k - 1) → (v ≡ p → ⊥) → record { below = k; present = false } ≡ place_at f p (find (up_to false f p) 0 n)
-  found_past v z e q = rw (← found, before k (omega arith)) (sym (pick_false _ _ (ne_eqb (f (k - 1)) p (λ r. q (e ∙ r)))))
+  pub found_some : {t : Bool} {v d : ℕ} → 0 < k → v ≡ f (k - 1) → t ≡ eqb v p → d ≡ from_bool t → record { below = k - d; present = t } ≡ place_at f p (find (up_to false f p) 0 n)
+  found_some h r e q = rw (q, e, r, ← found, before k h) (told (eqb (f (k - 1)) p) k)
 
 -- ---- against the list of the values
 

@@ -11,144 +11,121 @@ ghost use Rattle.lists.specs.Lists.{item, rises_below, list_accepts, list_names,
 
 use model::Place;
 
-// The bytes of n items. Each arm multiplies by a number, so that neither asks for a product of variables.
-fn size(n: u16, wide: bool) -> usize
-    ensures { result ≡ n * width_of wide }
-{
-    if wide { n as usize * 4 } else { n as usize * 2 }
+/// The items of a list, which lie in front of a body: `count` of them, 4 bytes each where `wide`, else 2.
+#[derive(Clone, Copy)]
+pub struct Items<'a> {
+    body: &'a [u8],
+    count: u16,
+    wide: bool,
+    ghost sized: { count * width_of wide ≤ length body.now },
 }
 
-// Item i.
-pub fn item(body: &[u8], i: usize, wide: bool) -> u32
-    requires { (i + 1) * width_of wide ≤ length body.now }
-    ensures { result ≡ item (width_of wide) body.now i }
-{
-    if wide {
-        fields::read32(body, i * 4)
-    } else {
-        fields::read16(body, i * 2) as u32
+impl<'a> Items<'a> {
+    pub fn new(body: &'a [u8], count: u16, wide: bool) -> Items<'a>
+        requires { count * width_of wide ≤ length body.now }
+        ensures body { result.body.now ≡ body.now }
+        ensures count { result.count ≡ count }
+        ensures wide { result.wide ≡ wide }
+    {
+        Items { body, count, wide }
+    }
+
+    // Item i.
+    pub fn item(&self, i: usize) -> u32
+        requires { i < self.now.count }
+        ensures { result ≡ item (width_of self.now.wide) self.now.body.now i }
+    {
+        fields::field(self.body, i * fields::width(self.wide), self.wide)
+    }
+
+    // Whether the items rise and stay below the span: the last of rising items is the largest. No early exit, so that the loop vectorizes.
+    pub fn rises(&self, span: u32) -> bool
+        ensures { result ≡ rises_below (item (width_of self.now.wide) self.now.body.now) span self.now.count }
+    {
+        if self.count == 0 {
+            return true;
+        }
+        let last = usize::from(self.count) - 1;
+        let mut ok = true;
+        for i in 0..last {
+            ok &= self.item(i) < self.item(i + 1);
+        }
+        ok & (self.item(last) < span)
+    }
+
+    // Where p stands: the search finds how many items are at most p, and the last of them may be p.
+    pub fn place(&self, p: u32) -> Place
+        ensures { result ≡ list_place (width_of self.now.wide) self.now.body.now self.now.count p }
+    {
+        let k = search::upper(
+            self.body,
+            0,
+            fields::width(self.wide),
+            usize::from(self.count),
+            p,
+            self.wide,
+            false,
+        );
+        let present = 0 < k && self.item(k - 1) == p;
+        Place {
+            below: k as u32 - u32::from(present),
+            present,
+        }
+    }
+
+    // The rank of p, counted in the part that begins at base, or the number that stands for nothing.
+    fn rank(&self, base: u32, span: u32, p: u32) -> u32
+        ensures { result ≡ rank_in (list_place (width_of self.now.wide) self.now.body.now self.now.count) base span p }
+    {
+        if model::lies_in(base, span, p) {
+            model::rank_or(self.place(p - base))
+        } else {
+            u32::MAX
+        }
+    }
+
+    // The same of many positions.
+    pub fn ranks(&self, base: u32, span: u32, positions: &[u32], out: &mut [u32])
+        requires { length positions.now ≤ length out.old }
+        ensures { out.new ≡ over (ranks_in (list_place (width_of self.now.wide) self.now.body.now self.now.count) base span positions.now) out.old }
+    {
+        model::answer_each(positions, out, |p| self.rank(base, span, p));
+    }
+
+    pub fn select(&self, k: u16) -> u32
+        requires { k < self.now.count }
+        ensures { result ≡ item (width_of self.now.wide) self.now.body.now k }
+    {
+        self.item(usize::from(k))
+    }
+
+    pub fn walk(&self, from: u16, base: u32, out: &mut [u32]) -> usize
+        ensures { Walked (moved base (walk_of (list_names (width_of self.now.wide) self.now.body.now self.now.count) from (length out.old))) out.old out.new result }
+    {
+        let start = usize::from(from);
+        let n = room(self.count, from, out.len());
+        for i in 0..n {
+            out[i] = base.wrapping_add(self.item(start + i));
+        }
+        n
     }
 }
 
-// Whether n items rise and stay below the span: the last of rising items is the largest. No early exit, so that the loop vectorizes.
-pub fn rises(body: &[u8], n: u16, span: u32, wide: bool) -> bool
-    requires { n * width_of wide ≤ length body.now }
-    ensures { result ≡ rises_below (item (width_of wide) body.now) span n }
-{
-    if n == 0 {
-        return true;
-    }
-    let last = n as usize - 1;
-    let mut ok = true;
-    let mut i = 0;
-    while i < last {
-        ok = ok & (item(body, i, wide) < item(body, i + 1, wide));
-        i += 1;
-    }
-    ok & (item(body, last, wide) < span)
-}
-
+#[tactic(auto, unfolding(crate::specs::Lists::list_accepts, model::specs::Tests::both, model::specs::Lists::counted))]
 pub fn check(body: &[u8], span: u32, count: u16, wide: bool) -> bool
     ensures { result ≡ list_accepts (width_of wide) body.now span count }
 {
-    if body.len() != size(count, wide) {
-        return false;
-    }
-    if count == 0 {
-        return false;
-    }
-    if span < count as u32 {
-        return false;
-    }
-    rises(body, count, span, wide)
-}
-
-// Where p stands: the search finds how many items are at most p, and the last of them may be p.
-pub fn place(body: &[u8], count: u16, p: u32, wide: bool) -> Place
-    requires { count * width_of wide ≤ length body.now }
-    ensures { result ≡ list_place (width_of wide) body.now count p }
-{
-    let k = search::upper(body, 0, fields::width(wide), count as usize, p, wide, false);
-    if k == 0 {
-        return Place {
-            below: 0,
-            present: false,
-        };
-    }
-    if item(body, k - 1, wide) == p {
-        return Place {
-            below: (k - 1) as u32,
-            present: true,
-        };
-    }
-    Place {
-        below: k as u32,
-        present: false,
-    }
-}
-
-// The rank of p, counted in the part that begins at base, or the number that stands for nothing.
-fn rank(body: &[u8], count: u16, base: u32, span: u32, p: u32, wide: bool) -> u32
-    requires { count * width_of wide ≤ length body.now }
-    ensures { result ≡ rank_in (list_place (width_of wide) body.now count) base span p }
-{
-    if !model::lies_in(base, span, p) {
-        return 4294967295;
-    }
-    model::rank_or(place(body, count, p - base, wide))
-}
-
-// The same of many positions.
-pub fn ranks(
-    body: &[u8],
-    count: u16,
-    base: u32,
-    span: u32,
-    positions: &[u32],
-    out: &mut [u32],
-    wide: bool,
-)
-    requires { (count * width_of wide ≤ length body.now) × (length positions.now ≤ length out.old) }
-    ensures { out.new ≡ over (ranks_in (list_place (width_of wide) body.now count) base span positions.now) out.old }
-{
-    let asked = positions.len();
-    let mut i = 0;
-    while i < asked {
-        out[i] = rank(body, count, base, span, positions[i], wide);
-        i += 1;
-    }
-}
-
-pub fn select(body: &[u8], k: u16, wide: bool) -> u32
-    requires { (k + 1) * width_of wide ≤ length body.now }
-    ensures { result ≡ item (width_of wide) body.now k }
-{
-    item(body, k as usize, wide)
+    body.len() == usize::from(count) * fields::width(wide)
+        && 0 < count
+        && u32::from(count) <= span
+        && Items::new(body, count, wide).rises(span)
 }
 
 // How many positions a walk from an ordinal writes: as many as fit or remain.
 fn room(count: u16, from: u16, len: usize) -> usize
     ensures { result ≡ min len (count - from) }
 {
-    if count <= from {
-        return 0;
-    }
-    let rest = (count - from) as usize;
-    if len < rest { len } else { rest }
-}
-
-pub fn walk(body: &[u8], count: u16, from: u16, base: u32, out: &mut [u32], wide: bool) -> usize
-    requires { count * width_of wide ≤ length body.now }
-    ensures { Walked (moved base (walk_of (list_names (width_of wide) body.now count) from (length out.old))) out.old out.new result }
-{
-    let start = from as usize;
-    let n = room(count, from, out.len());
-    let mut i = 0;
-    while i < n {
-        out[i] = std::num::wrapping_add_u32(base, item(body, start + i, wide));
-        i += 1;
-    }
-    n
+    len.min(usize::from(count.saturating_sub(from)))
 }
 
 // Writes the positions pos, pos + 1, .. into out from at on, counted from base.
@@ -156,42 +133,25 @@ pub fn fill(out: &mut [u32], at: usize, base: u32, pos: u32, size: u32)
     requires { at + size ≤ length out.old }
     ensures { out.new ≡ sets out.old at (moved base (range pos size)) }
 {
-    let first = std::num::wrapping_add_u32(base, pos);
-    let mut i = 0;
-    while i < size {
-        out[at + i as usize] = std::num::wrapping_add_u32(first, i);
-        i += 1;
+    let first = base.wrapping_add(pos);
+    for i in 0..size {
+        out[at + i as usize] = first.wrapping_add(i);
     }
 }
 
+#[tactic(auto, unfolding(crate::specs::Lists::dense_accepts, model::specs::Tests::both, model::specs::Lists::counted))]
 pub fn dense_check(body: &[u8], span: u32, count: u16) -> bool
     ensures { result ≡ dense_accepts body.now span count }
 {
-    if body.len() != 0 {
-        return false;
-    }
-    if count as u32 != span {
-        return false;
-    }
-    if count == 0 {
-        return false;
-    }
-    true
+    body.is_empty() && u32::from(count) == span && 0 < count
 }
 
 pub fn dense_place(span: u32, p: u32) -> Place
     ensures { result ≡ place_of (dense_names span) p }
 {
-    if p < span {
-        Place {
-            below: p,
-            present: true,
-        }
-    } else {
-        Place {
-            below: span,
-            present: false,
-        }
+    Place {
+        below: p.min(span),
+        present: p < span,
     }
 }
 
@@ -199,10 +159,11 @@ pub fn dense_place(span: u32, p: u32) -> Place
 fn dense_rank(base: u32, span: u32, p: u32) -> u32
     ensures { result ≡ rank_in (place_of (dense_names span)) base span p }
 {
-    if !model::lies_in(base, span, p) {
-        return 4294967295;
+    if model::lies_in(base, span, p) {
+        model::rank_or(dense_place(span, p - base))
+    } else {
+        u32::MAX
     }
-    model::rank_or(dense_place(span, p - base))
 }
 
 // The same of many positions.
@@ -210,18 +171,13 @@ pub fn dense_ranks(base: u32, span: u32, positions: &[u32], out: &mut [u32])
     requires { length positions.now ≤ length out.old }
     ensures { out.new ≡ over (ranks_in (place_of (dense_names span)) base span positions.now) out.old }
 {
-    let asked = positions.len();
-    let mut i = 0;
-    while i < asked {
-        out[i] = dense_rank(base, span, positions[i]);
-        i += 1;
-    }
+    model::answer_each(positions, out, |p| dense_rank(base, span, p));
 }
 
 pub fn dense_walk(count: u16, from: u16, base: u32, out: &mut [u32]) -> usize
     ensures { Walked (moved base (walk_of (dense_names count) from (length out.old))) out.old out.new result }
 {
     let n = room(count, from, out.len());
-    fill(out, 0, base, from as u32, n as u32);
+    fill(out, 0, base, u32::from(from), n as u32);
     n
 }

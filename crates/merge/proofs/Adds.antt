@@ -16,63 +16,60 @@ use Rattle.queue.specs.Steps.{Pushed, Popped}
 use Rattle.queue.proofs.Keys.{one_same, one_other, occ_some}
 use Rattle.links.specs.Keys.{code}
 use Rattle.links.specs.Pairs.{admits, saves}
-use Rattle.links.specs.Tables.{records, waiting, next, prev, stat_at}
+use Rattle.links.specs.Tables.{next, prev, stat_at}
 use Rattle.merge.specs.Rule.{one_if}
 use Rattle.merge.specs.Steps.{many, Added, pair_is, pair_key, left_is, left_key, right_is, right_key}
 
 -- ---- one offer
 
-pub added_yes : {n q : ℕ} {t : Bool} {k : ℕ} {w w' : List ℕ} → t ≡ true → Pushed (waiting n w) q k (waiting n w') → records n w' ≡ records n w → Added n q t k w w' (q + 1)
+pub added_yes : {q : ℕ} {t : Bool} {k : ℕ} {h h' : List ℕ} → t ≡ true → Pushed h q k h' → Added q t k h h' (q + 1)
 unfolding one_if pick
-added_yes {q = q} e pu same = record {
-  tables = same;
+added_yes e pu = record {
   count = rw e;
   heap = pu.heap;
   put = λ _. pu.keys;
   not = λ f. never e f;
 }
 
-pub added_no : {n q : ℕ} {t : Bool} {k : ℕ} {w : List ℕ} → t ≡ false → Heap (waiting n w) q → Added n q t k w w q
+pub added_no : {q : ℕ} {t : Bool} {k : ℕ} {h : List ℕ} → t ≡ false → Heap h q → Added q t k h h q
 unfolding one_if pick
-added_no f h = record {
-  tables = refl;
+added_no f o = record {
   count = rw f (omega arith);
-  heap = h;
+  heap = o;
   put = λ e. never e f;
   not = λ _ x. refl;
 }
 
 -- an offer of segments whose statistics are a and b
-pub offered_yes : (n q l m r : ℕ) (w w' : List ℕ) (a b : Stats) (k : ℕ) → a ≡ stat_at (records n w) l → b ≡ stat_at (records n w) m → admits a b ≡ true → k ≡ code (saves a b) l m r
-    → Pushed (waiting n w) q k (waiting n w') → records n w' ≡ records n w → Added n q (pair_is (records n w) l m) (pair_key (records n w) l m r) w w' (q + 1)
-offered_yes n q l m r w w' a b k ea eb t ek pu same =
-    added_yes (rw (← ea, ← eb) t) (subst (λ (x : ℕ). Pushed (waiting n w) q x (waiting n w')) (ek ∙ rw (ea, eb)) pu) same
+pub offered_yes : (q l m r : ℕ) (t h h' : List ℕ) (a b : Stats) (k : ℕ) → a ≡ stat_at t l → b ≡ stat_at t m → admits a b ≡ true → k ≡ code (saves a b) l m r
+    → Pushed h q k h' → Added q (pair_is t l m) (pair_key t l m r) h h' (q + 1)
+offered_yes q l m r t h h' a b k ea eb e ek pu =
+    added_yes (rw (← ea, ← eb) e) (subst (λ (x : ℕ). Pushed h q x h') (ek ∙ rw (ea, eb)) pu)
 
-pub offered_no : (n q l m r : ℕ) (w : List ℕ) (a b : Stats) → a ≡ stat_at (records n w) l → b ≡ stat_at (records n w) m → admits a b ≡ false
-    → Heap (waiting n w) q → Added n q (pair_is (records n w) l m) (pair_key (records n w) l m r) w w q
-offered_no n q l m r w a b ea eb f h = added_no (rw (← ea, ← eb) f) h
+pub offered_no : (q l m r : ℕ) (t h : List ℕ) (a b : Stats) → a ≡ stat_at t l → b ≡ stat_at t m → admits a b ≡ false
+    → Heap h q → Added q (pair_is t l m) (pair_key t l m r) h h q
+offered_no q l m r t h a b ea eb f o = added_no (rw (← ea, ← eb) f) o
 
 -- the pair to the left, read at p, and the pair to the right, read at z
-pub added_left : {n q : ℕ} {w w' : List ℕ} {c : ℕ} (l r p : ℕ) → 0 < l → p ≡ prev (records n w) l → Added n q (pair_is (records n w) p l) (pair_key (records n w) p l r) w w' c
-    → Added n q (left_is (records n w) l) (left_key (records n w) l r) w w' c
+pub added_left : {q : ℕ} {h h' : List ℕ} {c : ℕ} (t : List ℕ) (l r p : ℕ) → 0 < l → p ≡ prev t l → Added q (pair_is t p l) (pair_key t p l r) h h' c
+    → Added q (left_is t l) (left_key t l r) h h' c
 unfolding both
-added_left l r p z e a = rw (lt-ltb 0 l z) (rw e at a)
+added_left t l r p z e a = rw (lt-ltb 0 l z) (rw e at a)
 
-pub added_right : {n q : ℕ} {w w' : List ℕ} {c : ℕ} (l r z : ℕ) → 0 < z → z ≡ next (records n w) r → Added n q (pair_is (records n w) l r) (pair_key (records n w) l r z) w w' c
-    → Added n q (right_is (records n w) l r) (right_key (records n w) l r) w w' c
+pub added_right : {q : ℕ} {h h' : List ℕ} {c : ℕ} (t : List ℕ) (l r z : ℕ) → 0 < z → z ≡ next t r → Added q (pair_is t l r) (pair_key t l r z) h h' c
+    → Added q (right_is t l r) (right_key t l r) h h' c
 unfolding both
-added_right {n = n} {w = w} l r z h e a = rw (lt-ltb 0 (next (records n w) r) (omega arith)) (rw e at a)
+added_right t l r z g e a = rw (lt-ltb 0 (next t r) (omega arith)) (rw e at a)
 
-pub added_none : {n q k : ℕ} {w : List ℕ} (x : ℕ) (t : Bool) → x ≤ 0 → Heap (waiting n w) q → Added n q (both (ltb 0 x) t) k w w q
-added_none x t z h = added_no (both_first _ _ (le-ltb 0 x z)) h
+pub added_none : {q k : ℕ} {h : List ℕ} (x : ℕ) (t : Bool) → x ≤ 0 → Heap h q → Added q (both (ltb 0 x) t) k h h q
+added_none x t z o = added_no (both_first _ _ (le-ltb 0 x z)) o
 
 -- another name for the test, and for the key where the test holds
-pub added_as : {n q : ℕ} {t u : Bool} {k j : ℕ} {w w' : List ℕ} {c : ℕ} → t ≡ u → (u ≡ true → k ≡ j) → Added n q t k w w' c → Added n q u j w w' c
-added_as {n} {q} {t} {u} {k} {j} {w} e f a = record {
-  tables = a.tables;
+pub added_as : {q : ℕ} {t u : Bool} {k j : ℕ} {h h' : List ℕ} {c : ℕ} → t ≡ u → (u ≡ true → k ≡ j) → Added q t k h h' c → Added q u j h h' c
+added_as {q} {t} {u} {k} {j} {h} e f a = record {
   count = a.count ∙ rw e;
   heap = a.heap;
-  put = λ y x. a.put (e ∙ y) x ∙ ap (λ (v : ℕ). many n w q x + one v x) (f y);
+  put = λ y x. a.put (e ∙ y) x ∙ ap (λ (v : ℕ). many h q x + one v x) (f y);
   not = λ y. a.not (e ∙ y);
 }
 
@@ -81,15 +78,15 @@ added_as {n} {q} {t} {u} {k} {j} {w} e f a = record {
 abbrev pub Has : List ℕ → ℕ → ℕ → Type 0
 Has h q k = 0 < occ (key h) q k
 
-module _ {n q : ℕ} {t : Bool} {k : ℕ} {w w' : List ℕ} {c : ℕ} (a : Added n q t k w w' c) where
-  pub added-kept : (x : ℕ) → Has (waiting n w) q x → Has (waiting n w') c x
-  added-kept x h = ⊎_elim (λ e. omega (arith, a.put e x)) (λ e. omega (arith, a.not e x)) (either t)
+module _ {q : ℕ} {t : Bool} {k : ℕ} {h h' : List ℕ} {c : ℕ} (a : Added q t k h h' c) where
+  pub added-kept : (x : ℕ) → Has h q x → Has h' c x
+  added-kept x g = ⊎_elim (λ e. omega (arith, a.put e x)) (λ e. omega (arith, a.not e x)) (either t)
 
-  pub added_new : t ≡ true → Has (waiting n w') c k
+  pub added_new : t ≡ true → Has h' c k
   added_new e = omega (arith, a.put e k, one_same k)
 
-  pub added_only : (x : ℕ) → Has (waiting n w') c x → Has (waiting n w) q x ⊎ ((t ≡ true) × (x ≡ k))
-  added_only x h = ⊎_elim
+  pub added_only : (x : ℕ) → Has h' c x → Has h q x ⊎ ((t ≡ true) × (x ≡ k))
+  added_only x g = ⊎_elim
       (λ e. ⊎_elim (λ y. inr (e, sym y)) (λ ne. inl (omega (arith, a.put e x, one_other k x ne))) (same_or_not k x))
       (λ e. inl (omega (arith, a.not e x)))
       (either t)

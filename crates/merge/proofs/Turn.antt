@@ -15,7 +15,7 @@ use Rattle.stats.specs.declared.Stats.{Stats}
 use Rattle.queue.specs.Steps.{Popped}
 use Rattle.links.specs.Keys.{code}
 use Rattle.links.specs.Pairs.{segment_of, admitted, saving, Seeds}
-use Rattle.links.specs.Tables.{records, waiting, next, prev, stat_at, linked}
+use Rattle.links.specs.Tables.{next, prev, stat_at, linked}
 use Rattle.links.proofs.Tables.{linked-length, linked_left, linked_gone, linked-next, linked_right, linked-prev, linked_stat, linked_stats}
 use Rattle.merge.specs.Rule.{pair, one_if, without, best, pairs_with, after_joins, later_offers}
 use Rattle.merge.specs.Steps.{Added, joint_of, left_is, left_key, right_is, right_key, Joining}
@@ -166,26 +166,17 @@ module _ {f : ℕ → Stats} {n : ℕ} {t h : List ℕ} {q taken k : ℕ} (n16 :
     turns_is : s.turns ≡ suc (s.turns - 1)
     turns_is = omega (arith, s.fuel, meet_three here)
 
-    module _ {w₁ w₂ : List ℕ} {c : ℕ} (e₁ : records n w₁ ≡ t) (eh : waiting n w₁ ≡ h₁) (j : Joining n (q - 1) o.l o.m o.r w₁ w₂ c) where
-      tables₁ : records n j.linking ≡ t'
-      tables₁ = j.tables ∙ rw e₁
+    module _ {t₂ h₂ : List ℕ} {c : ℕ} (j : Joining (q - 1) o.l o.m o.r t t₂ h₁ h₂ c) where
+      add_left : Added (q - 1) (both (ltb 0 l) (admitted f P l r)) (code (saving f P l r) P l r) h₁ j.halfway j.offered
+      add_left = added_as left_is_lem left_key_lem (rw j.tables at j.left)
 
-      tables₂ : records n j.halfway ≡ t'
-      tables₂ = j.left.tables ∙ tables₁
+      add_right : Added j.offered (both (ltb 0 Z) (admitted f l r Z)) (code (saving f l r Z) l r Z) j.halfway h₂ c
+      add_right = added_as right_is_lem right_key_lem (rw j.tables at j.right)
 
-      add_left : Added n (q - 1) (both (ltb 0 l) (admitted f P l r)) (code (saving f P l r) P l r) j.linking j.halfway j.offered
-      add_left = added_as left_is_lem left_key_lem (rw tables₁ at j.left)
-
-      add_right : Added n j.offered (both (ltb 0 Z) (admitted f l r Z)) (code (saving f l r Z) l r Z) j.halfway w₂ c
-      add_right = added_as right_is_lem right_key_lem (rw tables₂ at j.right)
-
-      queue₁ : waiting n j.linking ≡ h₁
-      queue₁ = j.queue ∙ eh
-
-      offers' : (x : ℕ) → Has (waiting n w₂) c x → Offer n (admitted f) (saving f) x
+      offers' : (x : ℕ) → Has h₂ c x → Offer n (admitted f) (saving f) x
       offers' x e = ⊎_elim
           (λ e'. ⊎_elim
-          (λ e''. s.wait.offer x (popped_old p x (rw queue₁ at e'')))
+          (λ e''. s.wait.offer x (popped_old p x e''))
           (λ y.
           let zl : 0 < l = ltb-true 0 l (both_left _ _ y.0) in
           record { l = P; m = l; r = r; is = y.1; ok = both_right _ _ y.0; cuts = record { lm = before_order zl; mr = lr; rn = rn } })
@@ -195,19 +186,19 @@ module _ {f : ℕ → Stats} {n : ℕ} {t h : List ℕ} {q taken k : ℕ} (n16 :
           record { l = l; m = r; r = Z; is = y.1; ok = both_right _ _ y.0; cuts = record { lm = lr; mr = or.0; rn = or.1 } })
           (added_only add_right x e)
 
-      kept' : (x : ℕ) → Has h q x → (x ≡ k → ⊥) → Has (waiting n w₂) c x
-      kept' x e ne = added-kept add_right x (added-kept add_left x (rw queue₁ (popped_kept p x e ne)))
+      kept' : (x : ℕ) → Has h q x → (x ≡ k → ⊥) → Has h₂ c x
+      kept' x e ne = added-kept add_right x (added-kept add_left x (popped_kept p x e ne))
 
-      before' : (a : ℕ) → 0 < l → next t' a ≡ l → admitted f a l r ≡ true → Has (waiting n w₂) c (code (saving f a l r) a l r)
+      before' : (a : ℕ) → 0 < l → next t' a ≡ l → admitted f a l r ≡ true → Has h₂ c (code (saving f a l r) a l r)
       before' a z e ok =
           let ea : P ≡ a = back' a l e z in
           let yes' : admitted f P l r ≡ true = rw ea ok in
           rw (← ea) (added-kept add_right _ (added_new add_left (both_true _ _ (lt-ltb 0 l z) yes')))
 
-      after' : 0 < Z → admitted f l r Z ≡ true → Has (waiting n w₂) c (code (saving f l r Z) l r Z)
+      after' : 0 < Z → admitted f l r Z ≡ true → Has h₂ c (code (saving f l r Z) l r Z)
       after' z ok = added_new add_right (both_true _ _ (lt-ltb 0 Z z) ok)
 
-      turn_go : State f n t' (waiting n w₂) c (taken + 1)
+      turn_go : State f n t' h₂ c (taken + 1)
       turn_go = record {
         cs = without m s.cs;
         tail = without m s.tail;
@@ -218,11 +209,11 @@ module _ {f : ℕ → Stats} {n : ℕ} {t h : List ℕ} {q taken k : ℕ} (n16 :
         back = back';
         stats = stats';
         heap = j.right.heap;
-        wait = after_join n (admitted f) (saving f) n16 (Has h q) s.links s.wait o (next t') (Has (waiting n w₂) c) p₁ p₂ joins offers' kept' before' after';
+        wait = after_join n (admitted f) (saving f) n16 (Has h q) s.links s.wait o (next t') (Has h₂ c) p₁ p₂ joins offers' kept' before' after';
         same = sym (join_step (admitted f) (saving f) (s.turns - 1) s.cs l m r chosen) ∙ ap (λ (u : ℕ). after_joins (admitted f) (saving f) u s.cs) (sym turns_is) ∙ s.same;
         count = omega (arith, s.count, later_step (admitted f) (saving f) (s.turns - 1) s.cs l m r chosen, ap (λ (u : ℕ). later_offers (admitted f) (saving f) u s.cs) turns_is, new_pairs, add_left.count, add_right.count);
         fuel = omega (arith, length_without (meet_middle here), meet_three here, s.fuel);
       }
 
-      pub turn_live : State f n (records n w₂) (waiting n w₂) c (taken + 1)
-      turn_live = let e : records n w₂ ≡ t' = j.right.tables ∙ tables₂ in rw e turn_go
+      pub turn_live : State f n t₂ h₂ c (taken + 1)
+      turn_live = rw j.tables turn_go

@@ -8,20 +8,19 @@ use Rattle.queue.specs.Keys.{key, occ, one, Heap}
 use Rattle.links.specs.Links.{Chain, Cuts}
 use Rattle.links.specs.Keys.{code}
 use Rattle.links.specs.Pairs.{admits, saves, segment_of, admitted, saving}
-use Rattle.links.specs.Tables.{records, waiting, next, prev, stat_at, is_live, linked}
+use Rattle.links.specs.Tables.{next, prev, stat_at, is_live, linked}
 use Rattle.merge.specs.Rule.{one_if, pairs, merged, offers, cuts_from}
 
 -- how often the key x is in the queue of q keys
-abbrev pub many : ℕ → List ℕ → ℕ → ℕ → ℕ
-many n w q x = occ (key (waiting n w)) q x
+abbrev pub many : List ℕ → ℕ → ℕ → ℕ
+many h q x = occ (key h) q x
 
--- w' is w with the key k put into the queue of q keys if t; then c keys wait
-pub record Added (n q : ℕ) (t : Bool) (k : ℕ) (w w' : List ℕ) (c : ℕ) : Type 0 where
-  pub tables : records n w' ≡ records n w
+-- h' is h, a queue of q keys, with the key k put in if t; then c keys wait
+pub record Added (q : ℕ) (t : Bool) (k : ℕ) (h h' : List ℕ) (c : ℕ) : Type 0 where
   pub count : c ≡ q + one_if t
-  pub heap : Heap (waiting n w') c
-  pub put : t ≡ true → (x : ℕ) → many n w' c x ≡ many n w q x + one k x
-  pub not : t ≡ false → (x : ℕ) → many n w' c x ≡ many n w q x
+  pub heap : Heap h' c
+  pub put : t ≡ true → (x : ℕ) → many h' c x ≡ many h q x + one k x
+  pub not : t ≡ false → (x : ℕ) → many h' c x ≡ many h q x
 
 -- the pair of segments that start at l and m
 abbrev pub pair_is : List ℕ → ℕ → ℕ → Bool
@@ -66,27 +65,25 @@ pub record Ready (n : ℕ) (t : List ℕ) (l m r : ℕ) : Type 0 where
   pub right : 0 < next t r → Right n t r (joint_of t l m)
 
 -- the segments that meet at m are joined, and the pairs that contain the joined segment are offered
-pub record Joining (n q l m r : ℕ) (w w' : List ℕ) (c : ℕ) : Type 0 where
-  pub linking : List ℕ
+pub record Joining (q l m r : ℕ) (t t' h h' : List ℕ) (c : ℕ) : Type 0 where
   pub halfway : List ℕ
   pub offered : ℕ
-  pub tables : records n linking ≡ linked l m r (joint_of (records n w) l m) (records n w)
-  pub queue : waiting n linking ≡ waiting n w
-  pub left : Added n q (left_is (records n linking) l) (left_key (records n linking) l r) linking halfway offered
-  pub right : Added n offered (right_is (records n halfway) l r) (right_key (records n halfway) l r) halfway w' c
+  pub tables : t' ≡ linked l m r (joint_of t l m) t
+  pub left : Added q (left_is t' l) (left_key t' l r) h halfway offered
+  pub right : Added offered (right_is t' l r) (right_key t' l r) halfway h' c
 
 -- an offer is taken: if it is stale, nothing happens
-pub record Taken (n q l m r : ℕ) (w w' : List ℕ) (c : ℕ) : Type 0 where
-  pub live : is_live (records n w) l m r ≡ true → Joining n q l m r w w' c
-  pub stale : is_live (records n w) l m r ≡ false → (w' ≡ w) × (c ≡ q)
+pub record Taken (q l m r : ℕ) (t t' h h' : List ℕ) (c : ℕ) : Type 0 where
+  pub live : is_live t l m r ≡ true → Joining q l m r t t' h h' c
+  pub stale : is_live t l m r ≡ false → (t' ≡ t) × (h' ≡ h) × (c ≡ q)
 
 -- of the first i neighbouring pairs of seeds, those that are admitted wait in the queue, and nothing else
-pub record Offering (f : ℕ → Stats) (n i : ℕ) (w : List ℕ) (q : ℕ) : Type 0 where
+pub record Offering (f : ℕ → Stats) (n i : ℕ) (h : List ℕ) (q : ℕ) : Type 0 where
   pub most : q ≤ i
-  pub heap : Heap (waiting n w) q
+  pub heap : Heap h q
   pub count : q + pairs (admitted f) (cuts_from i (n - i)) ≡ pairs (admitted f) (cuts_from 0 n)
-  pub all : (x : ℕ) → x < i → admitted f x (x + 1) (x + 2) ≡ true → 0 < many n w q (code (saving f x (x + 1) (x + 2)) x (x + 1) (x + 2))
-  pub only : (k : ℕ) → 0 < many n w q k → (x : ℕ) × (x + 2 ≤ n) × (admitted f x (x + 1) (x + 2) ≡ true) × (k ≡ code (saving f x (x + 1) (x + 2)) x (x + 1) (x + 2))
+  pub all : (x : ℕ) → x < i → admitted f x (x + 1) (x + 2) ≡ true → 0 < many h q (code (saving f x (x + 1) (x + 2)) x (x + 1) (x + 2))
+  pub only : (k : ℕ) → 0 < many h q k → (x : ℕ) × (x + 2 ≤ n) × (admitted f x (x + 1) (x + 2) ≡ true) × (k ≡ code (saving f x (x + 1) (x + 2)) x (x + 1) (x + 2))
 
 -- ---- the whole: n seeds with the statistics f
 

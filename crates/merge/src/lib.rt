@@ -1,107 +1,125 @@
-// Seeds to segments by the plain rule, over the records of the cuts that `links` reads and writes, and the queue of offers behind
-// them.
+// Seeds to segments by the plain rule, over the records of the cuts that `links` reads and writes, and the queue of offers in the
+// words behind them.
 
 #![tactic(auto)]
 
 ghost use Rattle.std.specs.Prelude.{◌≡◌, true, ◌+◌, ◌*◌, ◌-◌, ◌<◌, ◌≤◌, length};
 ghost use Rattle.stats.specs.Statistics.{Neighbours};
-ghost use Rattle.queue.specs.Keys.{Heap};
 ghost use Rattle.links.specs.Links.{Cuts};
 ghost use Rattle.links.specs.Pairs.{Seeds};
-ghost use Rattle.links.specs.Tables.{base, records, waiting, next, stat_at, is_live};
+ghost use Rattle.links.specs.Tables.{base, records, next, stat_at, is_live};
 ghost use Rattle.merge.specs.Steps.{Added, pair_is, pair_key, left_is, left_key, right_is, right_key, Left, Right, Ready, Joining, Taken, Offering, Merged, offers_of};
 
-use links::{Pair, admitted, cell, decode, encode, link, live, saving, segment, start};
+use links::{Pair, admitted, cell, decode, encode, link, live, next, saving, segment, start};
+use queue::Queue;
 
-// Puts the pair of segments that meet at m into the queue of q keys, if it is admitted; answers how many keys wait then.
-fn offer(w: &mut [u32], n: usize, q: usize, l: usize, m: usize, r: usize) -> usize
-    requires cuts { Cuts n l m r × (n < 65536) }
-    requires q_in_bounds { base n + (q * 2 + 1) < length w.old }
-    requires heap { Heap (waiting n w.old) q }
-    requires neighbours { Neighbours (stat_at (records n w.old) l) (stat_at (records n w.old) m) }
-    ensures { Added n q (pair_is (records n w.old) l m) (pair_key (records n w.old) l m r) w.old w.new result }
+// Puts a pair of segments into the queue, if it is admitted.
+fn offer(t: &[u32], queue: &mut Queue, p: Pair)
+    requires cuts { Cuts 65535 p.left p.middle p.right × (p.middle * 8 + 8 ≤ length t.now) }
+    requires room { queue.old.len * 2 + 1 < length queue.old.words.now }
+    requires neighbours { Neighbours (stat_at t.now p.left) (stat_at t.now p.middle) }
+    ensures same_reference { queue.new.words.ghost_name ≡ queue.old.words.ghost_name }
+    ensures size { length queue.new.words.now ≡ length queue.old.words.now }
+    ensures added { Added queue.old.len (pair_is t.now p.left p.middle) (pair_key t.now p.left p.middle p.right) queue.old.words.now queue.new.words.now queue.new.len }
 {
-    let a = segment(w, l);
-    let b = segment(w, m);
+    let a = segment(t, p.left);
+    let b = segment(t, p.middle);
     if admitted(a, b) {
-        let k = encode(saving(a, b), l, m, r);
-        queue::push_at(w, n * 8 + 8, q, k);
-        return q + 1;
+        queue.push(encode(saving(a, b), p));
     }
-    q
 }
 
 // The same for the segment from l to r and the one before it, if there is one.
-fn offer_left(w: &mut [u32], n: usize, q: usize, l: usize, r: usize) -> usize
-    requires l_lt_r { (l < r) × (r ≤ n) × (n < 65536) }
-    requires q_in_bounds { base n + (q * 2 + 1) < length w.old }
-    requires heap { Heap (waiting n w.old) q }
-    requires left { 0 < l → Left (records n w.old) l (stat_at (records n w.old) l) }
-    ensures { Added n q (left_is (records n w.old) l) (left_key (records n w.old) l r) w.old w.new result }
+fn offer_left(t: &[u32], queue: &mut Queue, l: usize, r: usize)
+    requires cuts { (l < r) × (r < 65536) × (l * 8 + 8 ≤ length t.now) }
+    requires room { queue.old.len * 2 + 1 < length queue.old.words.now }
+    requires left { 0 < l → Left t.now l (stat_at t.now l) }
+    ensures same_reference { queue.new.words.ghost_name ≡ queue.old.words.ghost_name }
+    ensures size { length queue.new.words.now ≡ length queue.old.words.now }
+    ensures added { Added queue.old.len (left_is t.now l) (left_key t.now l r) queue.old.words.now queue.new.words.now queue.new.len }
 {
     if 0 < l {
-        let p = cell(w, l, 1);
-        return offer(w, n, q, p, l, r);
+        let left = cell(t, l, 1);
+        offer(
+            t,
+            queue,
+            Pair {
+                left,
+                middle: l,
+                right: r,
+            },
+        );
     }
-    q
 }
 
 // The same for it and the one after it.
-fn offer_right(w: &mut [u32], n: usize, q: usize, l: usize, r: usize) -> usize
-    requires l_lt_r { (l < r) × (r ≤ n) × (n < 65536) }
-    requires q_in_bounds { base n + (q * 2 + 1) < length w.old }
-    requires heap { Heap (waiting n w.old) q }
-    requires right { 0 < next (records n w.old) r → Right n (records n w.old) r (stat_at (records n w.old) l) }
-    ensures { Added n q (right_is (records n w.old) l r) (right_key (records n w.old) l r) w.old w.new result }
+fn offer_right(t: &[u32], queue: &mut Queue, l: usize, r: usize)
+    requires cuts { (l < r) × (r * 8 + 8 ≤ length t.now) }
+    requires room { queue.old.len * 2 + 1 < length queue.old.words.now }
+    requires right { 0 < next t.now r → Right 65535 t.now r (stat_at t.now l) }
+    ensures same_reference { queue.new.words.ghost_name ≡ queue.old.words.ghost_name }
+    ensures size { length queue.new.words.now ≡ length queue.old.words.now }
+    ensures added { Added queue.old.len (right_is t.now l r) (right_key t.now l r) queue.old.words.now queue.new.words.now queue.new.len }
 {
-    let z = cell(w, r, 0);
-    if 0 < z {
-        return offer(w, n, q, l, r, z);
+    let right = next(t, r);
+    if 0 < right {
+        offer(
+            t,
+            queue,
+            Pair {
+                left: l,
+                middle: r,
+                right,
+            },
+        );
     }
-    q
 }
 
-// Joins the segments that meet at m, and offers the pairs that contain the joined segment.
-fn join_pair(w: &mut [u32], n: usize, q: usize, l: usize, m: usize, r: usize) -> usize
-    requires ready { Ready n (records n w.old) l m r × (n < 65536) }
-    requires q_in_bounds { base n + (q * 2 + 3) < length w.old }
-    requires heap { Heap (waiting n w.old) q }
-    ensures { Joining n q l m r w.old w.new result }
+// Joins the two segments of a pair, and offers the pairs that contain the joined segment.
+fn join_pair(t: &mut [u32], queue: &mut Queue, p: Pair)
+    requires ready { Ready 65535 t.old p.left p.middle p.right × (p.right * 8 + 8 ≤ length t.old) }
+    requires room { queue.old.len * 2 + 3 < length queue.old.words.now }
+    ensures same_reference { queue.new.words.ghost_name ≡ queue.old.words.ghost_name }
+    ensures size { length queue.new.words.now ≡ length queue.old.words.now }
+    ensures joining { Joining queue.old.len p.left p.middle p.right t.old t.new queue.old.words.now queue.new.words.now queue.new.len }
 {
-    let s = stats::join(segment(w, l), segment(w, m));
-    link(w, l, m, r, s);
-    let c = offer_left(w, n, q, l, r);
-    offer_right(w, n, c, l, r)
+    let s = stats::join(segment(t, p.left), segment(t, p.middle));
+    link(t, p, s);
+    offer_left(t, queue, p.left, p.right);
+    offer_right(t, queue, p.left, p.right);
 }
 
-// Takes an offer: joins its pair, if it is not stale; answers how many keys wait then.
-fn take_offer(w: &mut [u32], n: usize, q: usize, o: Pair) -> usize
-    requires cuts { Cuts n o.left o.middle o.right × (n < 65536) }
-    requires q_in_bounds { base n + (q * 2 + 3) < length w.old }
-    requires heap { Heap (waiting n w.old) q }
-    requires ready { is_live (records n w.old) o.left o.middle o.right ≡ true → Ready n (records n w.old) o.left o.middle o.right }
-    ensures { Taken n q o.left o.middle o.right w.old w.new result }
+// Takes an offer: joins its pair, if it is not stale.
+fn take_offer(t: &mut [u32], queue: &mut Queue, p: Pair)
+    requires cuts { Cuts 65535 p.left p.middle p.right × (p.right * 8 + 8 ≤ length t.old) }
+    requires room { queue.old.len * 2 + 3 < length queue.old.words.now }
+    requires ready { is_live t.old p.left p.middle p.right ≡ true → Ready 65535 t.old p.left p.middle p.right }
+    ensures same_reference { queue.new.words.ghost_name ≡ queue.old.words.ghost_name }
+    ensures size { length queue.new.words.now ≡ length queue.old.words.now }
+    ensures taken { Taken queue.old.len p.left p.middle p.right t.old t.new queue.old.words.now queue.new.words.now queue.new.len }
 {
-    if live(w, o.left, o.middle, o.right) {
-        return join_pair(w, n, q, o.left, o.middle, o.right);
+    if live(t, p) {
+        join_pair(t, queue, p);
     }
-    q
 }
 
-// Offers each neighbouring pair of seeds; answers how many keys wait then.
-fn offer_all(w: &mut [u32], n: usize) -> usize
-    requires n_nonzero { (0 < n) × (n < 65536) × (base n + 6 * n ≤ length w.old) }
-    requires seeds { Seeds (stat_at (records n w.old)) n }
-    ensures offering { Offering (stat_at (records n w.old)) n (n - 1) w.new result }
-    ensures w_unchanged { records n w.new ≡ records n w.old }
+// Offers each neighbouring pair of seeds.
+fn offer_all(t: &[u32], queue: &mut Queue, n: usize)
+    requires n_nonzero { (0 < n) × (n < 65536) × (base n ≤ length t.now) × (6 * n ≤ length queue.old.words.now) }
+    requires empty { queue.old.len ≡ 0 }
+    requires seeds { Seeds (stat_at t.now) n }
+    ensures same_reference { queue.new.words.ghost_name ≡ queue.old.words.ghost_name }
+    ensures size { length queue.new.words.now ≡ length queue.old.words.now }
+    ensures offering { Offering (stat_at t.now) n (n - 1) queue.new.words.now queue.new.len }
 {
-    let mut i = 0;
-    let mut q = 0;
-    while i + 1 < n {
-        q = offer(w, n, q, i, i + 1, i + 2);
-        i += 1;
+    for i in 0..n - 1 {
+        let p = Pair {
+            left: i,
+            middle: i + 1,
+            right: i + 2,
+        };
+        offer(t, queue, p);
     }
-    q
 }
 
 // Joins n seeds, whose statistics stand in their records, into segments as the plain rule does, and counts the offers that
@@ -114,11 +132,12 @@ pub fn join_seeds(w: &mut [u32], n: usize) -> usize
     ensures merged { Merged (stat_at (records n w.old)) n (records n w.new) }
 {
     start(w, n);
-    let mut q = offer_all(w, n);
+    let (t, rest) = w.split_at_mut(n * 8 + 8);
+    let mut queue = Queue::new(rest);
+    offer_all(t, &mut queue, n);
     let mut taken = 0;
-    while 0 < q {
-        let k = queue::pop_at(w, n * 8 + 8, q);
-        q = take_offer(w, n, q - 1, decode(k));
+    while let Some(k) = queue.pop() {
+        take_offer(t, &mut queue, decode(k));
         taken += 1;
     }
     taken

@@ -13,12 +13,12 @@ use Rattle.model.specs.Lists.{has}
 use Rattle.model.specs.Answers.{Answer}
 use Rattle.model.proofs.Tests.{either, pick_true, pick_false}
 use Rattle.planning.specs.Planning.{answered}
-use Rattle.deletion.specs.declared.Section.TheVariants.{Empty}
+use Rattle.std.specs.Prelude.{None}
 use Rattle.deletion.specs.Reading.{block_fits, section_number, deleted_of, check_answer, contains_answer, walk_answer, walk_left}
 use Rattle.deletion.proofs.Walking.{walked_none}
 use Rattle.pelisafu.specs.Shown.{section_of}
 
-is_empty : (count tag : ℕ) → section_of 0 count tag ≡ Empty
+is_empty : (count tag : ℕ) → section_of 0 count tag ≡ None
 unfolding section_of
 is_empty count tag = pick_true _ _ (eq-eqb 0 0 refl)
 
@@ -44,4 +44,4 @@ module _ (rows limit count tag : ℕ) (body : List ℕ) where
   none_left from old =
       rw (is_empty count tag)
       (⊎_elim (λ e. pick_true _ _ e ∙ sym (walked_none old from).written) (λ e. pick_false _ _ e)
-      (either (eqb (section_number rows limit Empty body) 0)))
+      (either (eqb (section_number rows limit None body) 0)))

@@ -1,15 +1,12 @@
 -- The answers of document 01 as the structs of the C interface: the number of the refusal or 0, and each value, 0 where there is none.
 -- And a section of deletions from the numbers of that interface.
 -- Assumes nothing.
-use Rattle.std.specs.Prelude.{List, [], ◌∷◌, ℕ, eqb, get_or}
+use Rattle.std.specs.Prelude.{List, [], ◌∷◌, ℕ, Option, None, Some, eqb, get_or}
 use Rattle.model.specs.Tests.{pick}
 use Rattle.model.specs.Answers.{Answer}
 use Rattle.directory.specs.declared.Segment.{Segment}
-use Rattle.deletion.specs.declared.Section.{Section}
-use Rattle.deletion.specs.declared.Section.TheVariants.{Empty, Coded}
+use Rattle.deletion.specs.declared.Coded.{Coded}
 use Rattle.gather_core.specs.declared.Gatherer.{Gatherer}
-use Rattle.gather.specs.declared.lent.Added.{Added}
-use Rattle.gather.specs.declared.lent.Added.TheVariants as added
 use Rattle.pelisafu.specs.declared.Plan.{Plan}
 use Rattle.pelisafu.specs.declared.Checked.{Checked}
 use Rattle.pelisafu.specs.declared.Ranked.{Ranked}
@@ -59,13 +56,8 @@ shown_contained a = record { number = a.number; found = value_at a 0 }
 unfoldable pub shown_gathered : Answer → Gatherer → Gathered
 shown_gathered a after = record { number = a.number; «record» = after }
 
--- the number of a call on a lent record
-unfoldable pub number_of : Added → ℕ
-number_of added.Done = 0
-number_of (added.Refused k) = k
-
 -- ---- what is read
 
 -- a section: where coded is 0 the empty set, else a body of this tag with the count that is stated of it
-unfoldable pub section_of : ℕ → ℕ → ℕ → Section
-section_of coded count tag = pick (eqb coded 0) Empty (Coded count tag)
+unfoldable pub section_of : ℕ → ℕ → ℕ → Option Coded
+section_of coded count tag = pick (eqb coded 0) None (Some (record { count = count; tag = tag }))

@@ -5,82 +5,70 @@ ghost use Rattle.deletion.specs.Reading.{counted_of, contained_of, check_answer,
 ghost use Rattle.deletion.specs.Striking.{struck_of, strike_of, strike_out, strike_work};
 ghost use Rattle.pelisafu.specs.Shown.{shown_plan, shown_checked, shown_filled, shown_contained, section_of};
 
-use crate::reading::of_filled;
 use crate::{Checked, Contained, Filled, Plan};
-use deletion::{Counted, Section, Struck};
+use deletion::Coded;
+use model::Refusal;
+use plan::Body;
 
-// ---- to and from enums
+// ---- to an option, and from results to structs
 
 // Of the empty set, count and tag are not looked at.
-fn section(coded: u8, count: u16, tag: u8) -> Section
+#[tactic(auto, unfolding(crate::specs::Shown::section_of, model::specs::Tests::pick))]
+fn section(coded: u8, count: u16, tag: u8) -> Option<Coded>
     ensures { result ≡ section_of coded count tag }
 {
     if coded == 0 {
-        return Section::Empty;
+        return None;
     }
-    Section::Coded {
-        count: count,
-        tag: tag,
+    Some(Coded { count, tag })
+}
+
+impl From<Result<bool, Refusal>> for Contained {
+    ghost from_gives = { λ answer shown. shown ≡ shown_contained (contained_of answer) };
+
+    #[tactic(auto, unfolding(deletion::specs::Reading::contained_of, model::specs::Tests::pick, crate::specs::Shown::shown_contained, crate::specs::Shown::value_at))]
+    fn from(answer: Result<bool, Refusal>) -> Contained {
+        match answer {
+            Ok(found) => Contained {
+                number: 0,
+                found: u8::from(found),
+            },
+            Err(refusal) => Contained {
+                number: refusal.into(),
+                found: 0,
+            },
+        }
     }
 }
 
-fn of_counted(c: Counted) -> Checked
-    ensures { result ≡ shown_checked (counted_of c) }
-{
-    match c {
-        Counted::Deleted(n) => Checked { number: 0, rows: n },
-        Counted::Refused(k) => Checked { number: k, rows: 0 },
-    }
-}
+impl From<Result<Option<Body>, Refusal>> for Plan {
+    ghost from_gives = { λ answer shown. shown ≡ shown_plan (struck_of answer) };
 
-// Not deleted, or refused.
-fn absent(number: u8) -> Contained
-    ensures { result ≡ shown_contained (refused number) }
-{
-    Contained {
-        number: number,
-        found: 0,
-    }
-}
-
-fn of_contained(c: deletion::Contained) -> Contained
-    ensures { result ≡ shown_contained (contained_of c) }
-{
-    match c {
-        deletion::Contained::Yes => Contained {
-            number: 0,
-            found: 1,
-        },
-        deletion::Contained::No => absent(0),
-        deletion::Contained::Refused(k) => absent(k),
-    }
-}
-
-fn of_struck(c: Struck) -> Plan
-    ensures { result ≡ shown_plan (struck_of c) }
-{
-    match c {
-        Struck::Empty => Plan {
-            number: 0,
-            tag: 0,
-            length: 0,
-            segments: 0,
-            offers: 0,
-        },
-        Struck::Made(b) => Plan {
-            number: 0,
-            tag: b.tag,
-            length: b.length,
-            segments: b.segments,
-            offers: b.offers,
-        },
-        Struck::Refused(k) => Plan {
-            number: k,
-            tag: 0,
-            length: 0,
-            segments: 0,
-            offers: 0,
-        },
+    #[tactic(auto, unfolding(deletion::specs::Striking::struck_of, deletion::specs::Striking::struck_values, plan::specs::Plans::values_of, crate::specs::Shown::shown_plan, crate::specs::Shown::value_at))]
+    fn from(answer: Result<Option<Body>, Refusal>) -> Plan {
+        match answer {
+            Ok(Some(b)) => Plan {
+                number: 0,
+                tag: b.tag,
+                length: b.length,
+                segments: b.segments,
+                offers: b.offers,
+            },
+            Ok(None) => Plan {
+                number: 0,
+                tag: 0,
+                length: 0,
+                segments: 0,
+                offers: 0,
+            },
+            Err(refusal) => Plan {
+                number: refusal.into(),
+                tag: 0,
+                length: 0,
+                segments: 0,
+                offers: 0,
+            },
+        }
     }
 }
 
@@ -98,7 +86,7 @@ pub extern "C" fn pelisafu_plan_deletions(
     ensures out_after { out.new ≡ strike_out rows limit ordinals.now (length work.old) out.old }
     ensures work_after { work.new ≡ strike_work rows limit ordinals.now work.old }
 {
-    of_struck(deletion::plan_deletions(rows, limit, ordinals, work, out))
+    deletion::plan_deletions(rows, limit, ordinals, work, out).into()
 }
 
 #[unsafe(no_mangle)]
@@ -112,7 +100,7 @@ pub extern "C" fn pelisafu_check_deletions(
 ) -> Checked
     ensures { result ≡ shown_checked (check_answer rows limit (section_of coded count tag) body.now) }
 {
-    of_counted(deletion::check_deletions(rows, limit, section(coded, count, tag), body))
+    deletion::check_deletions(rows, limit, section(coded, count, tag), body).into()
 }
 
 #[unsafe(no_mangle)]
@@ -127,7 +115,7 @@ pub extern "C" fn pelisafu_deleted(
 ) -> Contained
     ensures { result ≡ shown_contained (contains_answer rows limit (section_of coded count tag) body.now ordinal) }
 {
-    of_contained(deletion::contains(rows, limit, section(coded, count, tag), body, ordinal))
+    deletion::contains(rows, limit, section(coded, count, tag), body, ordinal).into()
 }
 
 #[unsafe(no_mangle)]
@@ -144,5 +132,5 @@ pub extern "C" fn pelisafu_walk_deletions(
     ensures value { result ≡ shown_filled (walk_answer rows limit (section_of coded count tag) body.now from (length out.old)) }
     ensures out_after { out.new ≡ walk_left rows limit (section_of coded count tag) body.now from out.old }
 {
-    of_filled(deletion::walk_deletions(rows, limit, section(coded, count, tag), body, from, out))
+    deletion::walk_deletions(rows, limit, section(coded, count, tag), body, from, out).into()
 }

@@ -2,24 +2,27 @@
 ghost use Rattle.std.specs.Prelude.{◌≡◌, length};
 ghost use Rattle.gather_core.specs.Gather.{row_answer, row_table, page_answer, page_table};
 ghost use Rattle.gather.specs.Records.{added_answer, row_record, page_record};
-ghost use Rattle.pelisafu.specs.Shown.{shown_gathered, number_of};
+ghost use Rattle.model.specs.Refusals.{number_in};
+ghost use Rattle.pelisafu.specs.Shown.{shown_gathered};
 
 use crate::Gathered;
-use gather::{Added, Gatherer, Step};
+use gather::{Gatherer, Step};
+use model::Refusal;
 
-// ---- from enums to numbers and structs
+// ---- from results to numbers and structs
 
-pub fn number_of(a: Added) -> u8
-    ensures { result ≡ number_of a }
+fn number_of(answer: Result<(), Refusal>) -> u8
+    ensures { result ≡ number_in answer }
 {
-    match a {
-        Added::Done => 0,
-        Added::Refused(k) => k,
+    match answer {
+        Ok(()) => 0,
+        Err(refusal) => refusal.into(),
     }
 }
 
 // The record is put together anew: where it was passed on whole, the compiled code moved the answer by bytes from the number on,
 // and read them in other pieces than they had just been stored in, which waits.
+#[tactic(auto, using(crate::proofs::Numbers::number_is), unfolding(crate::specs::Shown::shown_gathered))]
 fn of_step(s: Step) -> Gathered
     ensures { result ≡ shown_gathered (added_answer s.answer s.after) s.after }
 {

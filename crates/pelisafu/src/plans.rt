@@ -5,25 +5,30 @@ ghost use Rattle.plan.specs.Plans.{planned_of};
 ghost use Rattle.pelisafu.specs.Shown.{shown_plan};
 
 use crate::Plan;
+use model::Refusal;
+use plan::Body;
 
-fn of_planned(c: plan::Planned) -> Plan
-    ensures { result ≡ shown_plan (planned_of c) }
-{
-    match c {
-        plan::Planned::Made(b) => Plan {
-            number: 0,
-            tag: b.tag,
-            length: b.length,
-            segments: b.segments,
-            offers: b.offers,
-        },
-        plan::Planned::Refused(k) => Plan {
-            number: k,
-            tag: 0,
-            length: 0,
-            segments: 0,
-            offers: 0,
-        },
+impl From<Result<Body, Refusal>> for Plan {
+    ghost from_gives = { λ answer shown. shown ≡ shown_plan (planned_of answer) };
+
+    #[tactic(auto, unfolding(plan::specs::Plans::planned_of, plan::specs::Plans::values_of, crate::specs::Shown::shown_plan, crate::specs::Shown::value_at))]
+    fn from(answer: Result<Body, Refusal>) -> Plan {
+        match answer {
+            Ok(b) => Plan {
+                number: 0,
+                tag: b.tag,
+                length: b.length,
+                segments: b.segments,
+                offers: b.offers,
+            },
+            Err(refusal) => Plan {
+                number: refusal.into(),
+                tag: 0,
+                length: 0,
+                segments: 0,
+                offers: 0,
+            },
+        }
     }
 }
 
@@ -41,7 +46,7 @@ pub extern "C" fn pelisafu_plan_rows(
     ensures out_after { out.new ≡ plan_out start end rows.now seeds.now limit (length work.old) out.old }
     ensures work_after { work.new ≡ plan_work start end rows.now seeds.now work.old }
 {
-    of_planned(plan::plan_rows(start, end, rows, seeds, limit, work, out))
+    plan::plan_rows(start, end, rows, seeds, limit, work, out).into()
 }
 
 #[unsafe(no_mangle)]
@@ -56,5 +61,5 @@ pub extern "C" fn pelisafu_plan_ordinals(
     ensures out_after { out.new ≡ plan_out 0 count ordinals.now [] limit (length work.old) out.old }
     ensures work_after { work.new ≡ plan_work 0 count ordinals.now [] work.old }
 {
-    of_planned(plan::plan_ordinals(count, ordinals, limit, work, out))
+    plan::plan_ordinals(count, ordinals, limit, work, out).into()
 }

@@ -4,74 +4,87 @@ ghost use Rattle.rowset.specs.Calls.{checked_of, ranked_of, selected_of, filled_
 ghost use Rattle.pelisafu.specs.Shown.{shown_checked, shown_ranked, shown_selected, shown_filled};
 
 use crate::{Checked, Filled, Ranked, Selected};
+use model::Refusal;
 
-// ---- from enums to structs
+// ---- from results to structs
 
-fn of_checked(c: rowset::Checked) -> Checked
-    ensures { result ≡ shown_checked (checked_of c) }
-{
-    match c {
-        rowset::Checked::Rows(n) => Checked { number: 0, rows: n },
-        rowset::Checked::Refused => Checked { number: 8, rows: 0 },
+impl From<Result<u16, Refusal>> for Checked {
+    ghost from_gives = { λ answer shown. shown ≡ shown_checked (checked_of answer) };
+
+    #[tactic(auto, unfolding(rowset::specs::Calls::checked_of, crate::specs::Shown::shown_checked, crate::specs::Shown::value_at))]
+    fn from(answer: Result<u16, Refusal>) -> Checked {
+        match answer {
+            Ok(rows) => Checked { number: 0, rows },
+            Err(refusal) => Checked {
+                number: refusal.into(),
+                rows: 0,
+            },
+        }
     }
 }
 
-fn of_ranked(c: rowset::Ranked) -> Ranked
-    ensures { result ≡ shown_ranked (ranked_of c) }
-{
-    match c {
-        rowset::Ranked::Ordinal(k) => Ranked {
-            number: 0,
-            found: 1,
-            ordinal: k,
-        },
-        rowset::Ranked::Nothing => Ranked {
-            number: 0,
-            found: 0,
-            ordinal: 0,
-        },
-        rowset::Ranked::Refused => Ranked {
-            number: 8,
-            found: 0,
-            ordinal: 0,
-        },
+impl From<Result<Option<u16>, Refusal>> for Ranked {
+    ghost from_gives = { λ answer shown. shown ≡ shown_ranked (ranked_of answer) };
+
+    #[tactic(auto, unfolding(rowset::specs::Calls::ranked_of, crate::specs::Shown::shown_ranked, crate::specs::Shown::value_at, crate::specs::Shown::some_in))]
+    fn from(answer: Result<Option<u16>, Refusal>) -> Ranked {
+        match answer {
+            Ok(Some(ordinal)) => Ranked {
+                number: 0,
+                found: 1,
+                ordinal,
+            },
+            Ok(None) => Ranked {
+                number: 0,
+                found: 0,
+                ordinal: 0,
+            },
+            Err(refusal) => Ranked {
+                number: refusal.into(),
+                found: 0,
+                ordinal: 0,
+            },
+        }
     }
 }
 
-fn of_selected(c: rowset::Selected) -> Selected
-    ensures { result ≡ shown_selected (selected_of c) }
-{
-    match c {
-        rowset::Selected::Position(p) => Selected {
-            number: 0,
-            found: 1,
-            position: p,
-        },
-        rowset::Selected::Nothing => Selected {
-            number: 0,
-            found: 0,
-            position: 0,
-        },
-        rowset::Selected::Refused => Selected {
-            number: 8,
-            found: 0,
-            position: 0,
-        },
+impl From<Result<Option<u32>, Refusal>> for Selected {
+    ghost from_gives = { λ answer shown. shown ≡ shown_selected (selected_of answer) };
+
+    #[tactic(auto, unfolding(rowset::specs::Calls::selected_of, crate::specs::Shown::shown_selected, crate::specs::Shown::value_at, crate::specs::Shown::some_in))]
+    fn from(answer: Result<Option<u32>, Refusal>) -> Selected {
+        match answer {
+            Ok(Some(position)) => Selected {
+                number: 0,
+                found: 1,
+                position,
+            },
+            Ok(None) => Selected {
+                number: 0,
+                found: 0,
+                position: 0,
+            },
+            Err(refusal) => Selected {
+                number: refusal.into(),
+                found: 0,
+                position: 0,
+            },
+        }
     }
 }
 
-pub fn of_filled(c: rowset::Filled) -> Filled
-    ensures { result ≡ shown_filled (filled_of c) }
-{
-    match c {
-        rowset::Filled::Written(n) => Filled {
-            number: 0,
-            written: n,
-        },
-        rowset::Filled::Refused(k) => Filled {
-            number: k,
-            written: 0,
-        },
+impl From<Result<usize, Refusal>> for Filled {
+    ghost from_gives = { λ answer shown. shown ≡ shown_filled (filled_of answer) };
+
+    #[tactic(auto, unfolding(rowset::specs::Calls::filled_of, crate::specs::Shown::shown_filled, crate::specs::Shown::value_at))]
+    fn from(answer: Result<usize, Refusal>) -> Filled {
+        match answer {
+            Ok(written) => Filled { number: 0, written },
+            Err(refusal) => Filled {
+                number: refusal.into(),
+                written: 0,
+            },
+        }
     }
 }
 
@@ -81,14 +94,14 @@ pub fn of_filled(c: rowset::Filled) -> Filled
 pub extern "C" fn pelisafu_validate(tag: u8, span: u32, body: &[u8]) -> Checked
     ensures { result ≡ shown_checked (validate_of tag span body.now) }
 {
-    of_checked(rowset::validate(tag, span, body))
+    rowset::validate(tag, span, body).into()
 }
 
 #[unsafe(no_mangle)]
 pub extern "C" fn pelisafu_rank(tag: u8, span: u32, body: &[u8], position: u32) -> Ranked
     ensures { result ≡ shown_ranked (rank_answer tag span body.now position) }
 {
-    of_ranked(rowset::rank(tag, span, body, position))
+    rowset::rank(tag, span, body, position).into()
 }
 
 #[unsafe(no_mangle)]
@@ -102,14 +115,14 @@ pub extern "C" fn pelisafu_ranks(
     ensures value { result ≡ shown_filled (ranks_answer tag span body.now positions.now (length out.old)) }
     ensures out_after { out.new ≡ ranks_left tag span body.now positions.now out.old }
 {
-    of_filled(rowset::ranks(tag, span, body, positions, out))
+    rowset::ranks(tag, span, body, positions, out).into()
 }
 
 #[unsafe(no_mangle)]
 pub extern "C" fn pelisafu_select(tag: u8, span: u32, body: &[u8], ordinal: u16) -> Selected
     ensures { result ≡ shown_selected (select_answer tag span body.now ordinal) }
 {
-    of_selected(rowset::select(tag, span, body, ordinal))
+    rowset::select(tag, span, body, ordinal).into()
 }
 
 #[unsafe(no_mangle)]
@@ -123,5 +136,5 @@ pub extern "C" fn pelisafu_walk(
     ensures value { result ≡ shown_filled (walk_answer tag span body.now from (length out.old)) }
     ensures out_after { out.new ≡ walk_left tag span body.now from out.old }
 {
-    of_filled(rowset::walk(tag, span, body, from, out))
+    rowset::walk(tag, span, body, from, out).into()
 }

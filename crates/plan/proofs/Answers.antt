@@ -3,14 +3,11 @@
 use mathlib.Core.Path.{◌≡◌, sym, ap, ◌∙◌}
 use mathlib.Core.List.{List, ◌++◌}
 use Prim.Native.Nat.{ℕ, ◌*◌, ◌≤◌}
-use mathlib.Core.Logic.{⊎_elim}
-use lib.Dec.{eqb, leb}
 use lib.ListN.{length, drop, replicate}
 use lib.Seq.{drop-append_seam}
 use borrow.Author.Tests.{eq-eqb, ne_eqb, le-leb}
 use Rattle.model.specs.Answers.{accepted, refused, over}
-use Rattle.model.specs.Tests.{pick, both}
-use Rattle.model.proofs.Tests.{either, pick_true, pick_false}
+use Rattle.model.proofs.Tests.{pick_true, pick_false}
 use Rattle.planning.specs.Refusals.{ends_of, room_fits, early_number}
 use Rattle.planning.proofs.Dividing.{early_divided}
 use Rattle.planning.specs.Planning.{planned_segments, planned_offers, planned_form, planned_body, late_number, planned_values, plan_number, plan_of, plan_out, plan_work}
@@ -93,9 +90,3 @@ unfolding over
 over_back zs ys xs v e f =
     let seam : drop v (ys ++ drop v xs) ≡ drop v xs = rw (← f) (drop-append_seam ys (drop (length ys) xs)) in
     rw (e, seam)
-
--- the first number of tests 6 and 7
-pub first_late : (bytes limit room : ℕ)
-    → pick (eqb (pick (both (leb bytes limit) (leb bytes 65535)) 0 6) 0) (pick (leb bytes room) 0 7) (pick (both (leb bytes limit) (leb bytes 65535)) 0 6) ≡ late_number bytes limit room
-unfolding late_number pick
-first_late bytes limit room = ⊎_elim (λ e. rw e) (λ e. rw e) (either (both (leb bytes limit) (leb bytes 65535)))

@@ -1,33 +1,53 @@
--- Planning step by step, over the list of its rows: what each call in the code asks, and what is known after it. The proofs for u64 rows and for u16
--- ordinals plug in their own calls.
+-- Planning step by step, over the numbers of its rows: what each call in the code asks, and what is known after it.
 -- Assumes nothing.
 use mathlib.Core.Path.{◌≡◌, refl, sym, ap, ◌∙◌}
 use mathlib.Core.List.{List, ◌++◌}
 use Prim.Native.Nat.{ℕ, ◌+◌, ◌*◌, ◌-◌, ◌<◌, ◌≤◌}
-use native.Mathlib.Nat.{sub-zero}
 use native.Mathlib.Omega.{arith}
 use lib.ListN.{length, take, drop, replicate, length-append, length-replicate}
-use borrow.Rule.Slice.PartMut.{post_of, Post-is, mid_len}
-use Rattle.model.specs.Answers.{Answer, accepted, refused, over}
+use lib.Seq.{length-take-le}
+use Rattle.model.specs.Answers.{Answer, accepted, over}
 use Rattle.model.specs.Lists.{positions_of}
+use Rattle.model.specs.declared.refusal.Refusal.{Refusal}
+use Rattle.model.specs.declared.refusal.Refusal.TheVariants as refusal
+use Rattle.model.specs.Refusals.{number_of}
+use Rattle.std.proofs.Common.{Result, Ok, Err}
+use Rattle.std.specs.Result.{IsErrAnd}
+use Rattle.std.proofs.lemmas.Result.{err_from_is_err_and}
+use Rattle.plan.specs.declared.Body.{Body}
+use Rattle.plan.specs.Plans.{values_of, planned_of}
 use Rattle.planning.specs.Refusals.{ends_of, early_number}
 use Rattle.planning.specs.Planning.{planned_form, late_number, planned_values, plan_of, plan_out, plan_work}
 use Rattle.planning.proofs.Dividing.{Divided, early_divided, early-given}
 use Rattle.planning.proofs.Sound.{late_zero}
-use Rattle.seeds.specs.declared.Early.{Early}
 use Rattle.seeds.specs.Judged.{Judged}
 use Rattle.seeds.specs.Placed.{Seeded, Placed}
 use Rattle.assemble.specs.Emission.{Writable, Laid}
 use Rattle.plan.specs.declared.Decision.{Decision}
-use Rattle.plan.specs.Merging.{Mergeable, Decided}
+use Rattle.plan.specs.Merging.{Tested, Mergeable, Decided}
 use Rattle.plan.proofs.Ready.{mergeable, roomy, writable, segments_few, decided_late, decided_values, decided_body}
 use Rattle.plan.proofs.Answers.{early_answer, early_out, early_work, cut_early, late_answer, late_out, made_answer, made_out, cut_answer, cut_out, over_back, cleared}
 
--- ---- in the workspace that the seeds need: the seeds are put there, merged, and the form is chosen
+-- ---- a refusal that is passed on
 
--- the tests before merging are met, and n counts the seeds
-abbrev pub Tested : ℕ → ℕ → List ℕ → List ℕ → ℕ → List ℕ → Type 0
-Tested start end rows seeds n w = (early_number start end rows seeds (length w) ≡ 0) × (n ≡ length (ends_of rows seeds))
+number_some : (r : Refusal) → number_of r ≡ 0 → ⊥
+number_some refusal.Coverage e = omega arith
+number_some refusal.RowCount e = omega arith
+number_some refusal.Order e = omega arith
+number_some refusal.SeedEnds e = omega arith
+number_some refusal.Workspace e = omega arith
+number_some refusal.Limit e = omega arith
+number_some refusal.Output e = omega arith
+number_some refusal.Body e = omega arith
+number_some refusal.Block e = omega arith
+number_some refusal.Count e = omega arith
+number_some refusal.Table e = omega arith
+number_some refusal.Record e = omega arith
+
+pub passed_on : {A : Type 0} {k : Refusal} {r : Result A Refusal} → IsErrAnd r (λ e. e ≡ k) → r ≡ Err k
+passed_on {r = r} h = let w = err_from_is_err_and r h in w.1 ∙ ap Err w.2
+
+-- ---- in the workspace that the seeds need: the seeds are put there, merged, and the form is chosen
 
 module _ (start end : ℕ) (rows seeds : List ℕ) (n : ℕ) (w : List ℕ) (t : Tested start end rows seeds n w) where
   divided : Divided start end rows (ends_of rows seeds) (length w)
@@ -68,10 +88,6 @@ module _ {start end : ℕ} {rows seeds : List ℕ} {words n span : ℕ} {w : Lis
   number : j ≡ late_number (planned_form start end rows seeds).bytes limit (length out)
   number = decided_late start end rows seeds c.spans c.decided j limit (length out) c.late
 
-  -- 6 and 7
-  pub late-refused : (j ≡ 0 → ⊥) → (refused j ≡ plan_of start end rows seeds limit words (length out)) × (out ≡ plan_out start end rows seeds limit words out)
-  late-refused some = (late_answer start end rows seeds limit words c.early out j number some, late_out start end rows seeds limit words c.early out j number some)
-
   -- acceptance
   module _ (none : j ≡ 0) where
     met : late_number d.form.bytes limit (length out) ≡ 0
@@ -83,63 +99,73 @@ module _ {start end : ℕ} {rows seeds : List ℕ} {words n span : ℕ} {w : Lis
     pub body_small : (d.form.bytes ≤ 65535) × (d.sum.segments ≤ 65535) × (d.offers ≤ 4294967295)
     body_small = ((late_zero d.form.bytes limit (length out) met).1, segments_few (early_divided _ _ _ _ _ c.early) c.decided, omega (arith, c.decided.most, c.few))
 
-    pub body_planned : {answer : Answer} {left : List ℕ} {r : ℕ} → answer ≡ accepted (planned_values d.form d.sum.segments d.offers) → Laid n w start rows span d.form out left r
-        → (answer ≡ plan_of start end rows seeds limit words (length out)) × (left ≡ plan_out start end rows seeds limit words out)
-    body_planned a l = (
-      a ∙ decided_values start end rows seeds c.spans c.decided ∙ made_answer start end rows seeds limit words c.early out j number none,
+    pub body_planned : (b : Body) {left : List ℕ} {r : ℕ} → values_of b ≡ planned_values d.form d.sum.segments d.offers → Laid n w start rows span d.form out left r
+        → (planned_of (Ok b) ≡ plan_of start end rows seeds limit words (length out)) × (left ≡ plan_out start end rows seeds limit words out)
+    unfolding planned_of
+    body_planned b a l = (
+      ap accepted a ∙ decided_values start end rows seeds c.spans c.decided ∙ made_answer start end rows seeds limit words c.early out j number none,
       decided_body start end rows seeds c.spans c.decided (roomy (early_divided _ _ _ _ _ c.early) limit (length out) c.spans c.decided met).0 l ∙ made_out start end rows seeds limit words c.early out j number none,
     )
 
+-- 6 and 7
+module _ {start end : ℕ} {rows seeds : List ℕ} {words n span : ℕ} {w : List ℕ} {d : Decision} {limit : ℕ} {out : List ℕ} (k : Refusal) (c : Chosen start end rows seeds words n span w d limit out (number_of k)) where
+  pub late-refused : planned_of (Err k) ≡ plan_of start end rows seeds limit words (length out)
+  unfolding planned_of
+  late-refused = late_answer start end rows seeds limit words c.early out _ (number c) (number_some k)
+
+  pub late_kept : out ≡ plan_out start end rows seeds limit words out
+  late_kept = late_out start end rows seeds limit words c.early out _ (number c) (number_some k)
+
 -- ---- the public calls: the words that the seeds need are lent, and zeroed when they are back
 
-module _ {start end : ℕ} {rows seeds : List ℕ} {words : ℕ} {r : Early} (j : Judged start end rows seeds words r) where
+module _ {start end : ℕ} {rows seeds : List ℕ} {words : ℕ} where
   -- 1 to 5
-  pub early-refused : (limit : ℕ) (out work : List ℕ) → words ≡ length work → (r.number ≡ 0 → ⊥)
-      → (refused r.number ≡ plan_of start end rows seeds limit words (length out))
-      × ((out ≡ plan_out start end rows seeds limit words out) × (work ≡ plan_work start end rows seeds work))
-  early-refused limit out work e some = (
-    early_answer start end rows seeds limit words r.number out work j.number some,
-    (early_out start end rows seeds limit words r.number out work j.number some, early_work start end rows seeds limit words r.number out work j.number some e),
-  )
+  module _ (k : Refusal) (j : Judged start end rows seeds words (Err k)) (limit : ℕ) (out work : List ℕ) where
+    pub early-refused : planned_of (Err k) ≡ plan_of start end rows seeds limit words (length out)
+    unfolding planned_of
+    early-refused = early_answer start end rows seeds limit words _ out work j.number (number_some k)
 
-  pub seeds_few : r.number ≡ 0 → r.seeds ≤ 65535
-  seeds_few none = omega (arith, j.count none, (early_divided start end rows seeds words (sym j.number ∙ none)).few_seeds)
+    pub early_kept : out ≡ plan_out start end rows seeds limit words out
+    early_kept = early_out start end rows seeds limit words _ out work j.number (number_some k)
 
--- v words of the workspace, 24 for each of the n seeds
-pub record Lent (start end : ℕ) (rows seeds work : List ℕ) (n v : ℕ) : Type 0 where
+    pub early_left : words ≡ length work → work ≡ plan_work start end rows seeds work
+    early_left e = early_work start end rows seeds limit words _ out work j.number (number_some k) e
+
+  pub seeds_few : {n : ℕ} → Judged start end rows seeds words (Ok n) → n ≤ 65535
+  seeds_few j = omega (arith, j.count _ refl, (early_divided start end rows seeds words (sym j.number)).few_seeds)
+
+-- 24 words of the workspace for each of the n seeds
+pub record Lent (start end : ℕ) (rows seeds work : List ℕ) (n : ℕ) : Type 0 where
   pub early : early_number start end rows seeds (length work) ≡ 0
   pub count : n ≡ length (ends_of rows seeds)
-  pub words : v ≡ n * 24
 
-pub lent : {start end : ℕ} {rows seeds work : List ℕ} {r : Early} {v : ℕ} → Judged start end rows seeds (length work) r → r.number ≡ 0 → v ≡ r.seeds * 24 → Lent start end rows seeds work r.seeds v
-lent j none e = record { early = sym j.number ∙ none; count = j.count none; words = e }
+pub lent : {start end : ℕ} {rows seeds work : List ℕ} {n : ℕ} → Judged start end rows seeds (length work) (Ok n) → Lent start end rows seeds work n
+lent j = record { early = sym j.number; count = j.count _ refl }
 
-module _ {start end : ℕ} {rows seeds work : List ℕ} {n v : ℕ} (k : Lent start end rows seeds work n v) where
-  pub lent_inside : v ≤ length work
-  lent_inside = omega (arith, k.words, k.count, (early_divided start end rows seeds (length work) k.early).room)
+module _ {start end : ℕ} {rows seeds work : List ℕ} {n : ℕ} (k : Lent start end rows seeds work n) where
+  pub lent_inside : n * 24 ≤ length work
+  lent_inside = omega (arith, k.count, (early_divided start end rows seeds (length work) k.early).room)
 
-  size : length (take (v - 0) work) ≡ v
-  size = mid_len 0 v work lent_inside ∙ sub-zero v
+  pub lent_size : length (take (n * 24) work) ≡ n * 24
+  lent_size = length-take-le (n * 24) work lent_inside
 
-  pub lent_tested : Tested start end rows seeds n (take (v - 0) work)
-  lent_tested = (cut_early start end rows seeds (length work) k.early (length (take (v - 0) work)) (omega (arith, size, k.words, k.count)), k.count)
+  pub lent_tested : Tested start end rows seeds n (take (n * 24) work)
+  lent_tested = (cut_early start end rows seeds (length work) k.early (length (take (n * 24) work)) (omega (arith, lent_size, k.count)), k.count)
 
-  module _ (back : List ℕ) (same : length back ≡ length (take (v - 0) work)) where
+  module _ (back : List ℕ) (same : length back ≡ length (take (n * 24) work)) where
     pub back_room : (rest : List ℕ) → n * 24 ≤ length (back ++ rest)
-    back_room rest = rw (length-append back rest) (omega (arith, same, size, k.words))
+    back_room rest = rw (length-append back rest) (omega (arith, same, lent_size))
 
     pub back_planned : (limit : ℕ) (out : List ℕ) {answer : Answer} {left zeroed : List ℕ}
-        → answer ≡ plan_of start end rows seeds limit (length (take (v - 0) work)) (length out) → left ≡ plan_out start end rows seeds limit (length (take (v - 0) work)) out
-        → zeroed ≡ over (replicate (n * 24) 0) (back ++ post_of 0 (v - 0) work)
+        → answer ≡ plan_of start end rows seeds limit (length (take (n * 24) work)) (length out) → left ≡ plan_out start end rows seeds limit (length (take (n * 24) work)) out
+        → zeroed ≡ over (replicate (n * 24) 0) (back ++ drop (n * 24) work)
         → (answer ≡ plan_of start end rows seeds limit (length work) (length out))
         × ((left ≡ plan_out start end rows seeds limit (length work) out) × (zeroed ≡ plan_work start end rows seeds work))
     back_planned limit out a l z =
-        let zeros : List ℕ = replicate (n * 24) 0 in
-        let long : length zeros ≡ v = length-replicate (n * 24) 0 ∙ sym k.words in
-        let rest : post_of 0 (v - 0) work ≡ drop v work = Post-is 0 v work (omega arith) in (
+        let zeros : List ℕ = replicate (n * 24) 0 in (
           a ∙ cut_answer start end rows seeds (length work) k.early _ lent_tested.0 limit out,
           (
             l ∙ cut_out start end rows seeds (length work) k.early _ lent_tested.0 limit out,
-            z ∙ ap (λ (u : List ℕ). over zeros (back ++ u)) rest ∙ over_back zeros back work v long (same ∙ size) ∙ ap (λ (i : ℕ). over (replicate (i * 24) 0) work) k.count ∙ cleared start end rows seeds limit (length work) work refl k.early,
+            z ∙ over_back zeros back work (n * 24) (length-replicate (n * 24) 0) (same ∙ lent_size) ∙ ap (λ (i : ℕ). over (replicate (i * 24) 0) work) k.count ∙ cleared start end rows seeds limit (length work) work refl k.early,
           ),
         )

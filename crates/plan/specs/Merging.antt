@@ -5,11 +5,16 @@ use Rattle.model.specs.Lists.{Rising}
 use Rattle.links.specs.Tables.{records, stat_at}
 use Rattle.links.specs.Pairs.{Seeds}
 use Rattle.merge.specs.Steps.{Merged, offers_of}
+use Rattle.planning.specs.Refusals.{ends_of, early_number}
 use Rattle.planning.specs.Segments.{segments_of, offers_for}
 use Rattle.planning.specs.Bodies.{form_for}
 use Rattle.planning.specs.Held.{Held}
 use Rattle.assemble.specs.Sums.{Summed}
 use Rattle.plan.specs.declared.Decision.{Decision}
+
+-- the tests before merging are met, and n counts the seeds
+abbrev pub Tested : ℕ → ℕ → List ℕ → List ℕ → ℕ → List ℕ → Type 0
+Tested start end rows seeds n w = (early_number start end rows seeds (length w) ≡ 0) × (n ≡ length (ends_of rows seeds))
 
 -- the n seeds of the rows xs stand in the workspace w, and merging them leaves the segments of the plain rule
 pub record Mergeable (xs ends : List ℕ) (span n : ℕ) (w : List ℕ) : Type 0 where

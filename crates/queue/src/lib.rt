@@ -2,25 +2,19 @@
 
 #![tactic(auto)]
 
-ghost use Rattle.std.specs.Prelude.{◌≡◌, ◌+◌, ◌*◌, ◌<◌, ◌≤◌, length, take, drop};
-ghost use Rattle.model.specs.Tests.{pick};
+ghost use Rattle.std.specs.Prelude.{MatchOption, ◌≡◌, ◌+◌, ◌-◌, ◌*◌, ◌<◌, ◌≤◌, length, take, drop};
 ghost use Rattle.queue.specs.Keys.{key, put, Heap};
 ghost use Rattle.queue.specs.Steps.{Larger, Settled, Pushed, Popped};
 
-// A function of a word and not of a slice, so that a read asks nothing of the word's size.
-fn wide(x: u32) -> u64
-    ensures { (result ≡ x) × (result < 4294967296) }
-{
-    x as u64
-}
-
+#[tactic(auto, unfolding(crate::specs::Keys::key))]
 pub fn load(h: &[u32], i: usize) -> u64
     requires { i * 2 + 1 < length h.now }
     ensures { result ≡ key h.now i }
 {
-    wide(h[i * 2]) * 4294967296 + wide(h[i * 2 + 1])
+    u64::from(h[i * 2]) * 4294967296 + u64::from(h[i * 2 + 1])
 }
 
+#[tactic(auto, unfolding(crate::specs::Keys::put))]
 pub fn store(h: &mut [u32], i: usize, k: u64)
     requires { i * 2 + 1 < length h.old }
     ensures { h.new ≡ put h.old i k }
@@ -48,25 +42,17 @@ pub fn push(h: &mut [u32], n: usize, k: u64)
     store(h, i, k);
 }
 
-fn one_if(t: bool) -> usize
-    ensures { (result ≡ pick t 1 0) × (result ≤ 1) }
-{
-    if t { 1 } else { 0 }
-}
-
 // Of the place c and the next, as far as they are below m, the one with the larger key. Which it is follows no pattern, so
 // it is added and not branched on.
 fn larger(h: &[u32], c: usize, m: usize) -> usize
     requires { (c < m) × (m * 2 ≤ length h.now) }
     ensures { Larger h.now c m result }
 {
-    let d = c + 1;
-    if d < m {
-        let left = load(h, c);
-        let right = load(h, d);
-        return c + one_if(left < right);
+    if c + 1 < m {
+        c + usize::from(load(h, c) < load(h, c + 1))
+    } else {
+        c
     }
-    c
 }
 
 // Puts k in the place of the first of m keys: a hole there sinks until the keys below it are small enough.
@@ -104,21 +90,47 @@ pub fn pop(h: &mut [u32], n: usize) -> u64
     top
 }
 
-// The same two over the words from base on; the words in front of it hold other tables.
-pub fn push_at(w: &mut [u32], base: usize, n: usize, k: u64)
-    requires n_in_bounds { base + (n * 2 + 1) < length w.old }
-    requires heap { Heap (drop base w.old) n }
-    ensures pushed { Pushed (drop base w.old) n k (drop base w.new) }
-    ensures w_unchanged { take base w.new ≡ take base w.old }
-{
-    push(&mut w[base..], n, k);
+// A queue over a lent slice of words, empty at first.
+#[derive(Drop)]
+pub struct Queue<'a> {
+    words: &'a mut [u32],
+    len: usize,
+    ghost fits: { len * 2 ≤ length words.now },
+    ghost heap: { Heap words.now len },
 }
 
-pub fn pop_at(w: &mut [u32], base: usize, n: usize) -> u64
-    requires n_nonzero { (0 < n) × (base + n * 2 ≤ length w.old) }
-    requires heap { Heap (drop base w.old) n }
-    ensures popped { Popped (drop base w.old) n result (drop base w.new) }
-    ensures w_unchanged { take base w.new ≡ take base w.old }
-{
-    pop(&mut w[base..], n)
+impl<'a> Queue<'a> {
+    pub fn new(words: &'a mut [u32]) -> Queue<'a>
+        ensures same_reference { result.words.ghost_name ≡ words.entry.ghost_name }
+        ensures words { result.words.now ≡ words.old }
+        ensures len { result.len ≡ 0 }
+    {
+        Queue { words, len: 0 }
+    }
+
+    pub fn push(&mut self, k: u64)
+        requires { self.old.len * 2 + 1 < length self.old.words.now }
+        ensures same_reference { self.new.words.ghost_name ≡ self.old.words.ghost_name }
+        ensures size { length self.new.words.now ≡ length self.old.words.now }
+        ensures pushed { Pushed self.old.words.now self.old.len k self.new.words.now }
+        ensures len { self.new.len ≡ self.old.len + 1 }
+    {
+        push(self.words, self.len, k);
+        self.len += 1;
+    }
+
+    // The largest key, if there is one.
+    pub fn pop(&mut self) -> Option<u64>
+        ensures same_reference { self.new.words.ghost_name ≡ self.old.words.ghost_name }
+        ensures size { length self.new.words.now ≡ length self.old.words.now }
+        ensures popped { MatchOption result (self.old.len ≡ 0) (λ r. Popped self.old.words.now self.old.len r self.new.words.now) }
+        ensures len { self.new.len ≡ self.old.len - 1 }
+    {
+        if self.len == 0 {
+            return None;
+        }
+        let n = self.len;
+        self.len = n - 1;
+        Some(pop(self.words, n))
+    }
 }

@@ -1,6 +1,7 @@
 // Cases met, by kind: plans by tag at 1 to 9, refused plans by number at 11 to 16, accepted bodies by tag at 21 to 29, and from 30 on:
 // refused bodies, plans that were also planned as ordinals, trimmed bitmaps planned, trimmed bitmaps read, ranks, selects, walks,
 // deletions planned, none, refused, deletions read, refused.
+use crate::Kind;
 use crate::list::number8;
 use crate::plans::flag;
 use std::io::Stdout;
@@ -12,32 +13,27 @@ fn add(counts: &mut [u64], i: usize, more: u8) {
     }
     let n = counts[i];
     if n < 4294967296 {
-        counts[i] = n + more as u64;
+        counts[i] = n + u64::from(more);
     }
 }
 
 // The place of a tag or a refusal: counted from `base`, and 0 for one that there is not.
 fn place(k: u8, base: u8) -> usize {
-    if 9 < k {
-        return 0;
+    if k <= 9 && base <= 30 {
+        usize::from(base + k)
+    } else {
+        0
     }
-    if 30 < base {
-        return 0;
-    }
-    (base + k) as usize
 }
 
-// 1 for a trimmed bitmap, by its tag and the flag in its body.
-fn trimmed(tag: u8, flag: u8) -> u8 {
-    if tag != 6 {
-        return 0;
-    }
-    if flag == 1 { 1 } else { 0 }
+// Whether it is a trimmed bitmap, by its tag and the flag in its body.
+fn is_trimmed(tag: u8, flag: u8) -> bool {
+    tag == 6 && flag == 1
 }
 
-// A plan; `also` is 1 where it was planned as ordinals too.
-fn plan(counts: &mut [u64], b: &[u8], also: u8) {
-    add(counts, 31, also);
+// A plan; `also` says that it was planned as ordinals too.
+fn plan(counts: &mut [u64], b: &[u8], also: bool) {
+    add(counts, 31, u8::from(also));
     let number = number8(b, 24);
     let tag = number8(b, 25);
     if number != 0 {
@@ -45,7 +41,7 @@ fn plan(counts: &mut [u64], b: &[u8], also: u8) {
         return;
     }
     add(counts, place(tag, 0), 1);
-    add(counts, 32, trimmed(tag, flag(b)));
+    add(counts, 32, u8::from(is_trimmed(tag, flag(b))));
 }
 
 fn body(counts: &mut [u64], b: &[u8]) {
@@ -58,58 +54,39 @@ fn body(counts: &mut [u64], b: &[u8]) {
         return;
     }
     add(counts, place(tag, 20), 1);
-    add(counts, 33, trimmed(tag, number8(b, 20)));
+    add(counts, 33, u8::from(is_trimmed(tag, number8(b, 20))));
 }
 
 fn struck(counts: &mut [u64], b: &[u8]) {
-    if number8(b, 6) != 0 {
-        add(counts, 39, 1);
-        return;
-    }
-    if number8(b, 7) == 0 {
-        add(counts, 38, 1);
-        return;
-    }
-    add(counts, 37, 1);
+    let i = match (number8(b, 6), number8(b, 7)) {
+        (0, 0) => 38,
+        (0, _) => 37,
+        _ => 39,
+    };
+    add(counts, i, 1);
 }
 
 fn section(counts: &mut [u64], b: &[u8]) {
-    if number8(b, 11) == 0 {
-        add(counts, 40, 1);
-    } else {
-        add(counts, 41, 1);
-    }
+    let i = if number8(b, 11) == 0 { 40 } else { 41 };
+    add(counts, i, 1);
 }
 
-// A case of a kind, run; `also` is 1 where a plan was planned as ordinals too.
-pub(crate) fn case(counts: &mut [u64], kind: u8, b: &[u8], also: u8) {
-    if kind == 1 {
-        plan(counts, b, also);
-        return;
+// A case that came out as the list says; `also` says that a plan was planned as ordinals too.
+pub(crate) fn case(counts: &mut [u64], kind: Kind, b: &[u8], also: bool) {
+    match kind {
+        Kind::Plan => plan(counts, b, also),
+        Kind::Body => body(counts, b),
+        Kind::Struck => struck(counts, b),
+        Kind::Section => section(counts, b),
     }
-    if kind == 2 {
-        body(counts, b);
-        return;
-    }
-    if kind == 3 {
-        struck(counts, b);
-        return;
-    }
-    section(counts, b);
-}
-
-fn at(counts: &[u64], i: usize) -> u64 {
-    if i < counts.len() { counts[i] } else { 0 }
 }
 
 // A text and the counts from `from` to before `to`, on a line.
 fn line(stdout: Stdout, text: &[u8], counts: &[u64], from: usize, to: usize) {
     let _ = stdout.write_all(text);
-    let mut i = from;
-    while i < to {
-        let n = at(counts, i);
+    for i in from..to {
+        let n = counts.get(i).copied().unwrap_or(0);
         let _ = print!(stdout; " {n}");
-        i += 1;
     }
     let _ = println!(stdout);
 }

@@ -3,11 +3,12 @@
 // refusal u8, an ordinal u16 and whether it is deleted u8, items u16; then the body, and the items of all deleted ordinals.
 ghost use Rattle.std.specs.Prelude.{◌≤◌};
 
-use crate::list::{count16, count32, narrow, number8, number16, rows_of, same_bytes};
+use crate::Fault;
+use crate::list::{count16, count32, narrow, number8, number16, rows_of, same_bytes, same_numbers};
 use crate::spaces::{ordinal_space, out_space, row_space, work_space};
-use deletion::{Contained, Counted, Section, Struck};
+use deletion::Coded;
+use model::Refusal;
 use plan::Body;
-use rowset::Filled;
 
 // ---- planned
 
@@ -23,61 +24,55 @@ fn plan_is_whole(b: &[u8]) -> bool {
 }
 
 fn same_made(b: &[u8], m: Body, out: &[u8]) -> bool {
-    if number8(b, 6) != 0 {
-        return false;
-    }
-    if m.tag != number8(b, 7) {
-        return false;
-    }
-    if m.length != number16(b, 8) {
-        return false;
-    }
-    same_bytes(out, b, body_at(b), m.length as usize)
+    number8(b, 6) == 0
+        && m.tag == number8(b, 7)
+        && m.length == number16(b, 8)
+        && same_bytes(out, b, body_at(b), usize::from(m.length))
 }
 
-fn same_struck(b: &[u8], s: Struck, out: &[u8]) -> bool {
-    match s {
-        Struck::Empty => (number8(b, 6) == 0) & (number8(b, 7) == 0),
-        Struck::Made(m) => same_made(b, m, out),
-        Struck::Refused(k) => k == number8(b, 6),
+fn same_struck(b: &[u8], answer: Result<Option<Body>, Refusal>, out: &[u8]) -> bool {
+    match answer {
+        Ok(None) => number8(b, 6) == 0 && number8(b, 7) == 0,
+        Ok(Some(m)) => same_made(b, m, out),
+        Err(refusal) => u8::from(refusal) == number8(b, 6),
     }
 }
 
 fn ask_plan(b: &[u8], ordinals: &[u16]) -> bool {
     let mut work = work_space();
     let mut out = out_space();
-    let s = deletion::plan_deletions(number16(b, 0), count32(b, 2), ordinals, &mut work, &mut out);
-    same_struck(b, s, &out)
+    let answer = deletion::plan_deletions(
+        number16(b, 0),
+        count32(b, 2),
+        ordinals,
+        &mut work,
+        &mut out,
+    );
+    same_struck(b, answer, &out)
 }
 
 // Whether the deletions are planned as the list says.
 fn same_planned(b: &[u8], rows: &[u64]) -> bool {
-    let mut space = ordinal_space();
-    let ordinals: &mut [u16] = &mut space;
-    if !narrow(rows, ordinals) {
-        return false;
-    }
+    let mut ordinals = ordinal_space();
     let n = rows.len();
-    let all = &ordinals[..];
-    if all.len() < n {
-        return false;
-    }
-    ask_plan(b, &all[0..n])
+    narrow(rows, &mut ordinals) && n <= ordinals.len() && ask_plan(b, &ordinals[..n])
 }
 
-// Runs a case of planning: 0 as the list says, 2 otherwise, 3 the case is broken.
-pub(crate) fn run_planned(b: &[u8]) -> u8 {
+// Whether a case of planning comes out as the list says.
+pub(crate) fn run_planned(b: &[u8]) -> Result<(), Fault> {
     if !plan_is_whole(b) {
-        return 3;
+        return Err(Fault::Broken);
     }
-    let mut space = row_space();
-    let rows: &mut [u64] = &mut space;
-    let n = rows_of(b, 12, count16(b, 10), 0, rows);
-    let all = &rows[..];
-    if all.len() < n {
-        return 3;
+    let mut rows = row_space();
+    let n = rows_of(b, 12, count16(b, 10), 0, &mut rows);
+    if rows.len() < n {
+        return Err(Fault::Broken);
     }
-    if same_planned(b, &all[0..n]) { 0 } else { 2 }
+    if same_planned(b, &rows[..n]) {
+        Ok(())
+    } else {
+        Err(Fault::Different)
+    }
 }
 
 // ---- read
@@ -93,97 +88,83 @@ fn read_is_whole(b: &[u8]) -> bool {
     walk_at(b) + count16(b, 15) * 4 == b.len()
 }
 
-fn section(b: &[u8]) -> Section {
-    Section::Coded {
+fn section(b: &[u8]) -> Option<Coded> {
+    Some(Coded {
         count: number16(b, 6),
         tag: number8(b, 8),
-    }
+    })
 }
 
 fn is_good(b: &[u8]) -> bool {
     number8(b, 11) == 0
 }
 
-fn same_counted(b: &[u8], c: Counted) -> bool {
-    match c {
-        Counted::Deleted(n) => is_good(b) & (n == number16(b, 6)),
-        Counted::Refused(k) => k == number8(b, 11),
+fn same_refusal(b: &[u8], refusal: Refusal) -> bool {
+    u8::from(refusal) == number8(b, 11)
+}
+
+fn same_count(b: &[u8], answer: Result<u16, Refusal>) -> bool {
+    match answer {
+        Ok(n) => is_good(b) && n == number16(b, 6),
+        Err(refusal) => same_refusal(b, refusal),
     }
 }
 
-fn same_contained(b: &[u8], c: Contained) -> bool {
-    match c {
-        Contained::Yes => is_good(b) & (number8(b, 14) == 1),
-        Contained::No => is_good(b) & (number8(b, 14) == 0),
-        Contained::Refused(k) => k == number8(b, 11),
+fn same_contained(b: &[u8], answer: Result<bool, Refusal>) -> bool {
+    match answer {
+        Ok(deleted) => is_good(b) && u8::from(deleted) == number8(b, 14),
+        Err(refusal) => same_refusal(b, refusal),
     }
 }
 
-fn wide(x: u16) -> u64 {
-    x as u64
-}
-
-fn same_ordinals(walked: &[u16], rows: &[u64], n: usize) -> bool {
-    if walked.len() < n {
-        return false;
+fn same_walked(
+    b: &[u8],
+    answer: Result<usize, Refusal>,
+    walked: &[u16],
+    rows: &[u64],
+    n: usize,
+) -> bool {
+    match answer {
+        Ok(k) => is_good(b) && k == n && same_numbers(walked, rows, n),
+        Err(refusal) => same_refusal(b, refusal),
     }
-    if rows.len() < n {
-        return false;
-    }
-    let mut i = 0;
-    while i < n {
-        if wide(walked[i]) != rows[i] {
-            return false;
-        }
-        i += 1;
-    }
-    true
-}
-
-fn same_filled(b: &[u8], f: Filled, walked: &[u16], rows: &[u64], n: usize) -> bool {
-    match f {
-        Filled::Written(k) => is_good(b) & (k == n) & same_ordinals(walked, rows, n),
-        Filled::Refused(k) => k == number8(b, 11),
-    }
-}
-
-fn ask_walk(b: &[u8], body: &[u8], walked: &mut [u16]) -> Filled {
-    deletion::walk_deletions(number16(b, 0), count32(b, 2), section(b), body, 0, walked)
 }
 
 fn same_walk(b: &[u8], body: &[u8]) -> bool {
-    let mut row_array = row_space();
-    let rows: &mut [u64] = &mut row_array;
-    let n = rows_of(b, walk_at(b), count16(b, 15), 0, rows);
-    let mut walk_array = ordinal_space();
-    let walked: &mut [u16] = &mut walk_array;
-    let f = ask_walk(b, body, walked);
-    same_filled(b, f, walked, rows, n)
+    let mut rows = row_space();
+    let n = rows_of(b, walk_at(b), count16(b, 15), 0, &mut rows);
+    let mut walked = ordinal_space();
+    let answer = deletion::walk_deletions(
+        number16(b, 0),
+        count32(b, 2),
+        section(b),
+        body,
+        0,
+        &mut walked,
+    );
+    same_walked(b, answer, &walked, &rows, n)
 }
 
 fn same_asked(b: &[u8], body: &[u8]) -> bool {
     let rows = number16(b, 0);
     let limit = count32(b, 2);
-    if !same_counted(b, deletion::check_deletions(rows, limit, section(b), body)) {
-        return false;
-    }
-    let c = deletion::contains(rows, limit, section(b), body, number16(b, 12));
-    same_contained(b, c)
+    same_count(b, deletion::check_deletions(rows, limit, section(b), body))
+        && same_contained(
+            b,
+            deletion::contains(rows, limit, section(b), body, number16(b, 12)),
+        )
 }
 
-// Runs a case of reading: 0 every answer on the section is as the list says, 2 otherwise, 3 the case is broken.
-pub(crate) fn run_read(b: &[u8]) -> u8 {
+// Whether every answer on the section is as the list says.
+pub(crate) fn run_read(b: &[u8]) -> Result<(), Fault> {
     let n = count16(b, 9);
-    if b.len() < 17 + n {
-        return 3;
-    }
-    if !read_is_whole(b) {
-        return 3;
+    if b.len() < 17 + n || !read_is_whole(b) {
+        return Err(Fault::Broken);
     }
     let body = &b[17..17 + n];
-    if same_asked(b, body) & same_walk(b, body) {
-        0
+    if same_asked(b, body) && same_walk(b, body) {
+        Ok(())
     } else {
-        2
+        Err(Fault::Different)
     }
 }

@@ -2,7 +2,7 @@
 //
 // Rows are items of two numbers, a gap and how many rows follow, each that gap after the one before it. No row: a gap that counts
 // 65,536 each. 65,535 rows: a gap backwards.
-ghost use Rattle.std.specs.Prelude.{◌+◌, ◌≤◌};
+ghost use Rattle.std.specs.Prelude.{◌≡◌, ◌+◌, ◌≤◌, length, true};
 
 // Rows so far, and the last one.
 #[derive(Clone, Copy)]
@@ -11,62 +11,51 @@ struct Stand {
     row: u64,
 }
 
+// Whether so many bytes stand at a place of the list.
+fn has(b: &[u8], at: usize, size: usize) -> bool
+    ensures { result ≡ true → at + size ≤ length b.now }
+{
+    size <= b.len() && at <= b.len() - size
+}
+
 pub(crate) fn number8(b: &[u8], at: usize) -> u8 {
-    if at < b.len() { b[at] } else { 0 }
+    if has(b, at, 1) { b[at] } else { 0 }
 }
 
 pub(crate) fn number16(b: &[u8], at: usize) -> u16 {
-    if b.len() < 2 {
-        return 0;
+    if has(b, at, 2) {
+        fields::read16(b, at)
+    } else {
+        0
     }
-    if b.len() - 2 < at {
-        return 0;
-    }
-    fields::read16(b, at)
 }
 
 pub(crate) fn number32(b: &[u8], at: usize) -> u32 {
-    if b.len() < 4 {
-        return 0;
+    if has(b, at, 4) {
+        fields::read32(b, at)
+    } else {
+        0
     }
-    if b.len() - 4 < at {
-        return 0;
-    }
-    fields::read32(b, at)
 }
 
 pub(crate) fn number64(b: &[u8], at: usize) -> u64 {
-    if b.len() < 8 {
-        return 0;
+    if has(b, at, 8) {
+        fields::read64(b, at)
+    } else {
+        0
     }
-    if b.len() - 8 < at {
-        return 0;
-    }
-    fields::read64(b, at)
-}
-
-fn wide8(x: u8) -> usize
-    ensures { result ≤ 255 }
-{
-    x as usize
-}
-
-fn wide16(x: u16) -> usize
-    ensures { result ≤ 65535 }
-{
-    x as usize
 }
 
 pub(crate) fn count8(b: &[u8], at: usize) -> usize
     ensures { result ≤ 255 }
 {
-    wide8(number8(b, at))
+    usize::from(number8(b, at))
 }
 
 pub(crate) fn count16(b: &[u8], at: usize) -> usize
     ensures { result ≤ 65535 }
 {
-    wide16(number16(b, at))
+    usize::from(number16(b, at))
 }
 
 pub(crate) fn count32(b: &[u8], at: usize) -> usize {
@@ -75,115 +64,76 @@ pub(crate) fn count32(b: &[u8], at: usize) -> usize {
 
 // Whether an output begins with n bytes of the list.
 pub(crate) fn same_bytes(out: &[u8], b: &[u8], from: usize, n: usize) -> bool {
-    if out.len() < n {
-        return false;
-    }
-    if b.len() < n {
-        return false;
-    }
-    if b.len() - n < from {
-        return false;
-    }
-    let mut i = 0;
-    while i < n {
-        if out[i] != b[from + i] {
-            return false;
-        }
-        i += 1;
-    }
-    true
+    n <= out.len() && has(b, from, n) && out[..n] == b[from..from + n]
+}
+
+// Whether an output begins with the first n of these rows.
+pub(crate) fn same_numbers<N: Copy + Into<u64>>(out: &[N], rows: &[u64], n: usize) -> bool {
+    n <= out.len()
+        && n <= rows.len()
+        && out[..n]
+            .iter()
+            .zip(&rows[..n])
+            .all(|(number, row)| (*number).into() == *row)
 }
 
 // ---- rows
 
 fn forward(row: u64, by: u64) -> u64 {
-    if 18446744073709551615 - row < by {
-        row
-    } else {
-        row + by
-    }
-}
-
-fn back(row: u64, by: u64) -> u64 {
-    if row < by { 0 } else { row - by }
-}
-
-fn least(a: usize, b: usize) -> usize
-    ensures { result ≤ b }
-{
-    if a < b { a } else { b }
+    row.checked_add(by).unwrap_or(row)
 }
 
 // As many rows more as there is room for.
 fn repeat(rows: &mut [u64], s: Stand, gap: u64, times: usize) -> Stand {
-    let end = rows.len();
-    let at = s.at;
-    if end < at {
-        return s;
+    let mut next = s;
+    for _ in 0..times {
+        if rows.len() <= next.at {
+            return next;
+        }
+        next.row = forward(next.row, gap);
+        rows[next.at] = next.row;
+        next.at += 1;
     }
-    let n = least(times, end - at);
-    let mut row = s.row;
-    let mut i = 0;
-    while i < n {
-        row = forward(row, gap);
-        rows[at + i] = row;
-        i += 1;
-    }
-    Stand {
-        at: at + n,
-        row: row,
-    }
+    next
 }
 
 fn item(rows: &mut [u64], s: Stand, gap: u16, times: u16) -> Stand {
-    if times == 0 {
-        return Stand {
+    let by = u64::from(gap);
+    match times {
+        0 => Stand {
             at: s.at,
-            row: forward(s.row, (gap as u64) * 65536),
-        };
-    }
-    if times == 65535 {
-        return Stand {
+            row: forward(s.row, by * 65536),
+        },
+        65535 => Stand {
             at: s.at,
-            row: back(s.row, gap as u64),
-        };
+            row: s.row.saturating_sub(by),
+        },
+        _ => repeat(rows, s, by, usize::from(times)),
     }
-    repeat(rows, s, gap as u64, times as usize)
 }
 
 // Puts the rows of so many items in front, and answers how many there are.
 pub(crate) fn rows_of(b: &[u8], from: usize, items: usize, base: u64, rows: &mut [u64]) -> usize
     requires { (from ≤ 1048576) × (items ≤ 65535) }
 {
-    let mut at: usize = 0;
-    let mut row = base;
-    let mut i = 0;
-    while i < items {
-        let gap = number16(b, from + i * 4);
-        let times = number16(b, from + i * 4 + 2);
-        let next = item(rows, Stand { at: at, row: row }, gap, times);
-        at = next.at;
-        row = next.row;
-        i += 1;
+    let mut next = Stand { at: 0, row: base };
+    for i in 0..items {
+        let at = from + i * 4;
+        next = item(rows, next, number16(b, at), number16(b, at + 2));
     }
-    at
+    next.at
 }
 
 // Puts the rows in front as ordinals, as far as each fits.
 pub(crate) fn narrow(rows: &[u64], ordinals: &mut [u16]) -> bool {
-    let end = ordinals.len();
-    let n = rows.len();
-    let mut i = 0;
-    while i < n {
-        if end <= i {
+    for (i, row) in rows.iter().enumerate() {
+        let Ok(ordinal) = u16::try_from(*row) else {
+            return false;
+        };
+        if ordinals.len() <= i {
             return false;
         }
-        let row = rows[i];
-        if 65535 < row {
-            return false;
-        }
-        ordinals[i] = row as u16;
-        i += 1;
+        ordinals[i] = ordinal;
     }
     true
 }

@@ -19,11 +19,41 @@ ghost use Rattle.std.specs.Prelude.{◌≡◌, ◌+◌, ◌≤◌, ◌<◌, leng
 use list::count32;
 use std::io::{Read, Stdin, Stdout};
 
-// How the run ended: 0 every case came out as the list says, 2 one did not, 3 one is broken. And how many did before that.
+// What a case is a case of.
 #[derive(Clone, Copy)]
-struct Ended {
-    how: u8,
+pub(crate) enum Kind {
+    Plan,
+    Body,
+    Struck,
+    Section,
+}
+
+// Why a run ends: a case did not come out as the list says, or it is broken.
+#[derive(Clone, Copy)]
+pub(crate) enum Fault {
+    Different,
+    Broken,
+}
+
+// A run that ended early: why, and how many cases came out as the list says before that.
+#[derive(Clone, Copy)]
+struct Stopped {
+    fault: Fault,
     cases: u64,
+}
+
+impl TryFrom<u8> for Kind {
+    type Error = Fault;
+
+    fn try_from(kind: u8) -> Result<Kind, Fault> {
+        match kind {
+            1 => Ok(Kind::Plan),
+            2 => Ok(Kind::Body),
+            3 => Ok(Kind::Struck),
+            4 => Ok(Kind::Section),
+            _ => Err(Fault::Broken),
+        }
+    }
 }
 
 // 400,000 bytes: a list that fills them may be cut off, and counts as broken.
@@ -33,21 +63,15 @@ fn list_space() -> [u8; 400000]
     [0; 400000]
 }
 
-// How a case came out: 0 as the list says, 1 the same and so as ordinals too, 2 otherwise, 3 the case is broken.
-fn run_case(kind: u8, b: &[u8]) -> u8 {
-    if kind == 1 {
-        return plans::run(b);
+// Runs a case: whether it is a plan that came out as ordinals too.
+fn run_case(kind: Kind, b: &[u8]) -> Result<bool, Fault> {
+    match kind {
+        Kind::Plan => return plans::run(b),
+        Kind::Body => body_cases::run(b)?,
+        Kind::Struck => deletions::run_planned(b)?,
+        Kind::Section => deletions::run_read(b)?,
     }
-    if kind == 2 {
-        return body_cases::run(b);
-    }
-    if kind == 3 {
-        return deletions::run_planned(b);
-    }
-    if kind == 4 {
-        return deletions::run_read(b);
-    }
-    3
+    Ok(false)
 }
 
 // The bytes that a case takes with its kind and size, as far as they are there.
@@ -64,51 +88,45 @@ fn size_at(list: &[u8], at: usize) -> usize
 }
 
 // Runs the case at a place of the list, and counts it where it comes out as the list says.
-fn run_at(list: &[u8], at: usize, counts: &mut [u64]) -> u8
+fn run_at(list: &[u8], at: usize, counts: &mut [u64]) -> Result<(), Fault>
     requires { at < length list.now }
 {
     let n = size_at(list, at);
-    if n < 5 {
-        return 3;
+    if n < 5 || count32(list, at + 1) != n - 5 {
+        return Err(Fault::Broken);
     }
-    if count32(list, at + 1) != n - 5 {
-        return 3;
-    }
-    let kind = list[at];
+    let kind = Kind::try_from(list[at])?;
     let b = &list[at + 5..at + n];
-    let how = run_case(kind, b);
-    if how < 2 {
-        counts::case(counts, kind, b, how);
-    }
-    how
+    let also = run_case(kind, b)?;
+    counts::case(counts, kind, b, also);
+    Ok(())
 }
 
-// Runs every case after the first byte, up to the first that does not come out as the list says.
-fn run_all(list: &[u8], counts: &mut [u64]) -> Ended {
+// Runs every case after the first byte, up to the first that does not come out as the list says, and answers how many did.
+fn run_all(list: &[u8], counts: &mut [u64]) -> Result<u64, Stopped> {
     let mut at: usize = 1;
-    let mut k: u64 = 0;
+    let mut cases: u64 = 0;
     while at < list.len() {
-        let how = run_at(list, at, counts);
-        if 1 < how {
-            return Ended { how: how, cases: k };
+        if let Err(fault) = run_at(list, at, counts) {
+            return Err(Stopped { fault, cases });
         }
         at += size_at(list, at);
-        k += 1;
+        cases += 1;
     }
-    Ended { how: 0, cases: k }
+    Ok(cases)
 }
 
-fn say_ended(stdout: Stdout, e: Ended) {
-    let k = e.cases;
-    if e.how == 0 {
-        let _ = println!(stdout; "cases {k}\ndifferences 0");
-        return;
-    }
-    if e.how == 2 {
-        let _ = println!(stdout; "first difference at case {k}");
-    } else {
-        let _ = println!(stdout; "broken at case {k}");
-    }
+fn say_ended(stdout: Stdout, ended: Result<u64, Stopped>) {
+    let _ = match ended {
+        Ok(cases) => println!(stdout; "cases {cases}\ndifferences 0"),
+        Err(stopped) => {
+            let cases = stopped.cases;
+            match stopped.fault {
+                Fault::Different => println!(stdout; "first difference at case {cases}"),
+                Fault::Broken => println!(stdout; "broken at case {cases}"),
+            }
+        }
+    };
 }
 
 // One read into list from `at` on: 0 at the end of the input, and where the read fails.
@@ -116,10 +134,7 @@ fn read_some(mut stdin: Stdin, list: &mut [u8], at: usize) -> usize
     requires { at ≤ length list.old }
     ensures { at + result ≤ length list.old }
 {
-    match stdin.read(&mut list[at..]) {
-        Ok(n) => n,
-        Err(_) => 0,
-    }
+    stdin.read(&mut list[at..]).unwrap_or(0)
 }
 
 // Reads until list is full, the input ends or a read fails, and answers how many bytes stand in front.
@@ -145,23 +160,18 @@ fn run(stdout: Stdout, list: &[u8]) {
     say_ended(stdout, ended);
 }
 
+// A list that is empty, fills its space or begins with another byte is broken before its first case.
 fn main(rt: HostRuntime) {
     let stdout = rt.stdout();
-    let mut space = list_space();
-    let list: &mut [u8] = &mut space;
-    let got = read_full(rt.stdin(), list);
-    if got == 0 {
-        say_ended(stdout, Ended { how: 3, cases: 0 });
+    let mut list = list_space();
+    let got = read_full(rt.stdin(), &mut list);
+    if got == 0 || got == list.len() || list[0] != 1 {
+        let broken = Stopped {
+            fault: Fault::Broken,
+            cases: 0,
+        };
+        say_ended(stdout, Err(broken));
         return;
     }
-    if got == list.len() {
-        say_ended(stdout, Ended { how: 3, cases: 0 });
-        return;
-    }
-    if list[0] != 1 {
-        say_ended(stdout, Ended { how: 3, cases: 0 });
-        return;
-    }
-    let read = &list[..];
-    run(stdout, &read[0..got]);
+    run(stdout, &list[..got]);
 }

@@ -2,11 +2,13 @@
 // offers u32; then the items of the rows, the seed ends, and the body.
 ghost use Rattle.std.specs.Prelude.{◌≤◌};
 
+use crate::Fault;
 use crate::list::{
     count16, count32, narrow, number8, number16, number32, number64, rows_of, same_bytes,
 };
 use crate::spaces::{ordinal_space, out_space, row_space, work_space};
-use plan::{Body, Planned};
+use model::Refusal;
+use plan::Body;
 
 fn seeds_at(b: &[u8]) -> usize
     ensures { result ≤ 1000000 }
@@ -31,28 +33,18 @@ pub(crate) fn flag(b: &[u8]) -> u8 {
 }
 
 fn same_made(b: &[u8], m: Body, out: &[u8]) -> bool {
-    if number8(b, 24) != 0 {
-        return false;
-    }
-    if m.tag != number8(b, 25) {
-        return false;
-    }
-    if m.length != number16(b, 26) {
-        return false;
-    }
-    if m.segments != number16(b, 28) {
-        return false;
-    }
-    if m.offers != number32(b, 30) {
-        return false;
-    }
-    same_bytes(out, b, body_at(b), m.length as usize)
+    number8(b, 24) == 0
+        && m.tag == number8(b, 25)
+        && m.length == number16(b, 26)
+        && m.segments == number16(b, 28)
+        && m.offers == number32(b, 30)
+        && same_bytes(out, b, body_at(b), usize::from(m.length))
 }
 
-fn same_plan(b: &[u8], p: Planned, out: &[u8]) -> bool {
-    match p {
-        Planned::Made(m) => same_made(b, m, out),
-        Planned::Refused(k) => k == number8(b, 24),
+fn same_plan(b: &[u8], answer: Result<Body, Refusal>, out: &[u8]) -> bool {
+    match answer {
+        Ok(m) => same_made(b, m, out),
+        Err(refusal) => u8::from(refusal) == number8(b, 24),
     }
 }
 
@@ -60,21 +52,15 @@ fn same_plan(b: &[u8], p: Planned, out: &[u8]) -> bool {
 fn seeds_of(b: &[u8], from: usize, n: usize, seeds: &mut [u16])
     requires { (from ≤ 1000000) × (n ≤ 65535) }
 {
-    let end = seeds.len();
-    let mut i = 0;
-    while i < n {
-        if end <= i {
-            return;
-        }
+    for i in 0..n.min(seeds.len()) {
         seeds[i] = number16(b, from + i * 2);
-        i += 1;
     }
 }
 
 fn ask_rows(b: &[u8], rows: &[u64], seeds: &[u16]) -> bool {
     let mut work = work_space();
     let mut out = out_space();
-    let p = plan::plan_rows(
+    let answer = plan::plan_rows(
         number64(b, 0),
         number64(b, 8),
         rows,
@@ -83,81 +69,68 @@ fn ask_rows(b: &[u8], rows: &[u64], seeds: &[u16]) -> bool {
         &mut work,
         &mut out,
     );
-    same_plan(b, p, &out)
+    same_plan(b, answer, &out)
 }
 
 // Whether the rows are planned as the list says.
 fn same_rows(b: &[u8], rows: &[u64]) -> bool {
     let k = count16(b, 22);
-    let mut space = ordinal_space();
-    let ends: &mut [u16] = &mut space;
-    seeds_of(b, seeds_at(b), k, ends);
-    let seeds = &ends[..];
-    ask_rows(b, rows, &seeds[0..k])
+    let mut seeds = ordinal_space();
+    seeds_of(b, seeds_at(b), k, &mut seeds);
+    ask_rows(b, rows, &seeds[..k])
 }
 
 // ---- the same rows as ordinals, where they begin at 0 and have no seeds
 
 // Whether the case could be one of ordinals, by all but its rows.
-fn of_ordinals(b: &[u8]) -> bool {
-    if number64(b, 0) != 0 {
-        return false;
-    }
-    if 65535 < number64(b, 8) {
-        return false;
-    }
-    count16(b, 22) == 0
+fn is_of_ordinals(b: &[u8]) -> bool {
+    number64(b, 0) == 0 && number64(b, 8) <= 65535 && count16(b, 22) == 0
 }
 
 fn ask_ordinals(b: &[u8], ordinals: &[u16]) -> bool {
     let mut work = work_space();
     let mut out = out_space();
-    let p = plan::plan_ordinals(
+    let answer = plan::plan_ordinals(
         number16(b, 8),
         ordinals,
         count32(b, 16),
         &mut work,
         &mut out,
     );
-    same_plan(b, p, &out)
+    same_plan(b, answer, &out)
 }
 
-// 0: no case of ordinals; 1: planned as the list says; 2: not so.
-fn same_ordinals(b: &[u8], rows: &[u64]) -> u8 {
-    let mut space = ordinal_space();
-    let ordinals: &mut [u16] = &mut space;
-    if !narrow(rows, ordinals) {
-        return 0;
-    }
+// Whether the rows are ordinals; and if so, they are planned as the list says.
+fn same_ordinals(b: &[u8], rows: &[u64]) -> Result<bool, Fault> {
+    let mut ordinals = ordinal_space();
     let n = rows.len();
-    let all = &ordinals[..];
-    if all.len() < n {
-        return 0;
+    if !narrow(rows, &mut ordinals) || ordinals.len() < n {
+        return Ok(false);
     }
-    if ask_ordinals(b, &all[0..n]) { 1 } else { 2 }
+    if ask_ordinals(b, &ordinals[..n]) {
+        Ok(true)
+    } else {
+        Err(Fault::Different)
+    }
 }
 
-fn same(b: &[u8], rows: &[u64]) -> u8 {
-    if !same_rows(b, rows) {
-        return 2;
-    }
-    if of_ordinals(b) {
-        return same_ordinals(b, rows);
-    }
-    0
-}
-
-// Runs the case: 0 as the list says, 1 the same and so as ordinals too, 2 otherwise, 3 the case is broken.
-pub(crate) fn run(b: &[u8]) -> u8 {
+// Runs the case: whether it came out as ordinals too.
+pub(crate) fn run(b: &[u8]) -> Result<bool, Fault> {
     if !is_whole(b) {
-        return 3;
+        return Err(Fault::Broken);
     }
     let mut space = row_space();
-    let rows: &mut [u64] = &mut space;
-    let n = rows_of(b, 34, count16(b, 20), number64(b, 0), rows);
-    let all = &rows[..];
-    if all.len() < n {
-        return 3;
+    let n = rows_of(b, 34, count16(b, 20), number64(b, 0), &mut space);
+    if space.len() < n {
+        return Err(Fault::Broken);
     }
-    same(b, &all[0..n])
+    let rows = &space[..n];
+    if !same_rows(b, rows) {
+        return Err(Fault::Different);
+    }
+    if is_of_ordinals(b) {
+        same_ordinals(b, rows)
+    } else {
+        Ok(false)
+    }
 }

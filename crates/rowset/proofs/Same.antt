@@ -1,76 +1,98 @@
 -- Two results of a call with the same answer are equal, so the contracts of the calls state one result.
 -- Assumes nothing.
-use mathlib.Core.Path.{◌≡◌, refl, ap}
-use mathlib.Core.List.{List}
-use Prim.Native.Nat.{ℕ}
+use mathlib.Core.Path.{◌≡◌, refl, sym, ap, ◌∙◌}
+use mathlib.Core.List.{List, [], ◌∷◌}
+use Prim.Native.Nat.{ℕ, ◌≤◌}
 use native.Mathlib.Omega.{arith}
 use lib.ListN.{get_or}
+use Rattle.std.specs.Prelude.{Option, Some, None, Result, Ok, Err}
+use Rattle.std.specs.Option.{option_to_list}
 use Rattle.model.specs.Answers.{Answer}
+use Rattle.model.specs.Refusals.{number_of, answer_of}
+use Rattle.model.specs.declared.refusal.Refusal.{Refusal}
+use Rattle.model.specs.declared.refusal.Refusal.TheVariants as refusal
 use Rattle.directory.specs.declared.Segment.{Segment}
-use Rattle.rowset.specs.Calls.{checked_of, ranked_of, selected_of, filled_of, values_of, entry_answer}
-use Rattle.model.proofs.Answers.{same_number, same_size}
-use Rattle.rowset.specs.declared.Checked.{Checked}
-use Rattle.rowset.specs.declared.Checked.TheVariants as checked
-use Rattle.rowset.specs.declared.Ranked.{Ranked}
-use Rattle.rowset.specs.declared.Ranked.TheVariants as ranked
-use Rattle.rowset.specs.declared.Selected.{Selected}
-use Rattle.rowset.specs.declared.Selected.TheVariants as selected
-use Rattle.rowset.specs.declared.Filled.{Filled}
-use Rattle.rowset.specs.declared.Filled.TheVariants as filled
-use Rattle.rowset.specs.declared.Entry.{Entry}
-use Rattle.rowset.specs.declared.Entry.TheVariants as entry
+use Rattle.rowset.specs.Calls.{checked_of, ranked_of, selected_of, filled_of, values_of, entry_values, entry_answer}
+use Rattle.model.proofs.Answers.{same_number}
+
+-- ---- a refusal is told from its number, which is not 0
+
+abbrev refusal_from : ℕ → Refusal
+refusal_from n =
+    get_or
+    (refusal.Coverage ∷ refusal.Coverage ∷ refusal.RowCount ∷ refusal.Order ∷ refusal.SeedEnds ∷ refusal.Workspace ∷ refusal.Limit ∷ refusal.Output ∷ refusal.Body ∷ refusal.Block ∷ refusal.Count ∷ refusal.Table ∷ [])
+    n
+    refusal.Record
+
+told : (r : Refusal) → (refusal_from (number_of r) ≡ r) × (1 ≤ number_of r)
+told refusal.Coverage = (refl, omega arith)
+told refusal.RowCount = (refl, omega arith)
+told refusal.Order = (refl, omega arith)
+told refusal.SeedEnds = (refl, omega arith)
+told refusal.Workspace = (refl, omega arith)
+told refusal.Limit = (refl, omega arith)
+told refusal.Output = (refl, omega arith)
+told refusal.Body = (refl, omega arith)
+told refusal.Block = (refl, omega arith)
+told refusal.Count = (refl, omega arith)
+told refusal.Table = (refl, omega arith)
+told refusal.Record = (refl, omega arith)
+
+pub same_refusal : (a b : Refusal) → number_of a ≡ number_of b → a ≡ b
+same_refusal a b e = sym (told a).0 ∙ ap refusal_from e ∙ (told b).0
+
+pub number_not : (r : Refusal) → number_of r ≡ 0 → ⊥
+number_not r e = omega (arith, (told r).1)
+
+-- ---- what is held is told from its values
+
+module _ {A : Type 0} (values : A → List ℕ) (from : List ℕ → A) (back : (x : A) → from (values x) ≡ x) where
+  pub answer_same : (a b : Result A Refusal) → answer_of values a ≡ answer_of values b → a ≡ b
+  answer_same (Ok x) (Ok y) e = ap Ok (sym (back x) ∙ ap (λ (a : Answer). from a.values) e ∙ back y)
+  answer_same (Ok x) (Err r) e = absurd (number_not r (sym (same_number e)))
+  answer_same (Err r) (Ok x) e = absurd (number_not r (same_number e))
+  answer_same (Err r) (Err s) e = ap Err (same_refusal r s (same_number e))
+
+-- ---- of each call
+
+abbrev pub first_of : List ℕ → ℕ
+first_of vs = get_or vs 0 0
+
+pub checked_same : (a b : Result ℕ Refusal) → checked_of a ≡ checked_of b → a ≡ b
+unfolding checked_of
+checked_same a b e = answer_same (λ n. n ∷ []) first_of (λ n. refl) a b e
+
+abbrev option_from : List ℕ → Option ℕ
+option_from [] = None
+option_from (v ∷ vs) = Some v
+
+option_back : (o : Option ℕ) → option_from (option_to_list o) ≡ o
+option_back None = refl
+option_back (Some v) = refl
+
+pub ranked_same : (a b : Result (Option ℕ) Refusal) → ranked_of a ≡ ranked_of b → a ≡ b
+unfolding ranked_of
+ranked_same a b e = answer_same option_to_list option_from option_back a b e
+
+pub selected_same : (a b : Result (Option ℕ) Refusal) → selected_of a ≡ selected_of b → a ≡ b
+unfolding selected_of
+selected_same a b e = answer_same option_to_list option_from option_back a b e
+
+pub filled_same : (a b : Result ℕ Refusal) → filled_of a ≡ filled_of b → a ≡ b
+unfolding filled_of
+filled_same a b e = answer_same (λ n. n ∷ []) first_of (λ n. refl) a b e
 
 -- a directory entry from its values
-abbrev segment_from : List ℕ → Segment
-segment_from vs = record { start = get_or vs 0 0; span = get_or vs 1 0; count = get_or vs 2 0; ordinal = get_or vs 3 0; offset = get_or vs 4 0; length = get_or vs 5 0; tag = get_or vs 6 0 }
+abbrev entry_from : List ℕ → Option Segment
+entry_from [] = None
+entry_from (v ∷ vs) =
+    Some (record { start = v; span = get_or vs 0 0; count = get_or vs 1 0; ordinal = get_or vs 2 0; offset = get_or vs 3 0; length = get_or vs 4 0; tag = get_or vs 5 0 })
 
-pub checked_same : (a b : Checked) → checked_of a ≡ checked_of b → a ≡ b
-unfolding checked_of
-checked_same (checked.Rows m) (checked.Rows n) e = ap (λ (x : Answer). checked.Rows (get_or x.values 0 0)) e
-checked_same (checked.Rows m) checked.Refused e = absurd (omega (arith, same_number e))
-checked_same checked.Refused (checked.Rows n) e = absurd (omega (arith, same_number e))
-checked_same checked.Refused checked.Refused e = refl
+entry_back : (o : Option Segment) → entry_from (entry_values o) ≡ o
+unfolding entry_values values_of
+entry_back None = refl
+entry_back (Some s) = refl
 
-pub ranked_same : (a b : Ranked) → ranked_of a ≡ ranked_of b → a ≡ b
-unfolding ranked_of
-ranked_same (ranked.Ordinal m) (ranked.Ordinal n) e = ap (λ (x : Answer). ranked.Ordinal (get_or x.values 0 0)) e
-ranked_same (ranked.Ordinal m) ranked.Nothing e = absurd (omega (arith, same_size e))
-ranked_same (ranked.Ordinal m) ranked.Refused e = absurd (omega (arith, same_number e))
-ranked_same ranked.Nothing (ranked.Ordinal n) e = absurd (omega (arith, same_size e))
-ranked_same ranked.Nothing ranked.Nothing e = refl
-ranked_same ranked.Nothing ranked.Refused e = absurd (omega (arith, same_number e))
-ranked_same ranked.Refused (ranked.Ordinal n) e = absurd (omega (arith, same_number e))
-ranked_same ranked.Refused ranked.Nothing e = absurd (omega (arith, same_number e))
-ranked_same ranked.Refused ranked.Refused e = refl
-
-pub selected_same : (a b : Selected) → selected_of a ≡ selected_of b → a ≡ b
-unfolding selected_of
-selected_same (selected.Position m) (selected.Position n) e = ap (λ (x : Answer). selected.Position (get_or x.values 0 0)) e
-selected_same (selected.Position m) selected.Nothing e = absurd (omega (arith, same_size e))
-selected_same (selected.Position m) selected.Refused e = absurd (omega (arith, same_number e))
-selected_same selected.Nothing (selected.Position n) e = absurd (omega (arith, same_size e))
-selected_same selected.Nothing selected.Nothing e = refl
-selected_same selected.Nothing selected.Refused e = absurd (omega (arith, same_number e))
-selected_same selected.Refused (selected.Position n) e = absurd (omega (arith, same_number e))
-selected_same selected.Refused selected.Nothing e = absurd (omega (arith, same_number e))
-selected_same selected.Refused selected.Refused e = refl
-
--- a number of answers is one value and a refusal none, so that even a refusal of number 0 would be told apart
-pub filled_same : (a b : Filled) → filled_of a ≡ filled_of b → a ≡ b
-unfolding filled_of
-filled_same (filled.Written m) (filled.Written n) e = ap (λ (x : Answer). filled.Written (get_or x.values 0 0)) e
-filled_same (filled.Written m) (filled.Refused k) e = absurd (omega (arith, same_size e))
-filled_same (filled.Refused k) (filled.Written n) e = absurd (omega (arith, same_size e))
-filled_same (filled.Refused k) (filled.Refused j) e = ap (λ (x : Answer). filled.Refused x.number) e
-
-pub entry-same : (a b : Entry) → entry_answer a ≡ entry_answer b → a ≡ b
-unfolding entry_answer values_of
-entry-same (entry.Is s) (entry.Is t) e = ap (λ (x : Answer). entry.Is (segment_from x.values)) e
-entry-same (entry.Is s) entry.Nothing e = absurd (omega (arith, same_size e))
-entry-same (entry.Is s) entry.Refused e = absurd (omega (arith, same_number e))
-entry-same entry.Nothing (entry.Is t) e = absurd (omega (arith, same_size e))
-entry-same entry.Nothing entry.Nothing e = refl
-entry-same entry.Nothing entry.Refused e = absurd (omega (arith, same_number e))
-entry-same entry.Refused (entry.Is t) e = absurd (omega (arith, same_number e))
-entry-same entry.Refused entry.Nothing e = absurd (omega (arith, same_number e))
-entry-same entry.Refused entry.Refused e = refl
+pub entry-same : (a b : Result (Option Segment) Refusal) → entry_answer a ≡ entry_answer b → a ≡ b
+unfolding entry_answer
+entry-same a b e = answer_same entry_values entry_from entry_back a b e

@@ -1,51 +1,41 @@
 -- What the public calls answer, in document 01's numbers and values, and what they leave in a lent slice.
 -- Assumes nothing.
-use Rattle.std.specs.Prelude.{List, [], ◌∷◌, ℕ, eqb, leb, ltb, length}
+use Rattle.std.specs.Prelude.{List, [], ◌∷◌, ℕ, eqb, leb, ltb, length, Option, Some, None, Result}
+use Rattle.std.specs.Option.{option_to_list}
 use Rattle.model.specs.Tests.{pick}
 use Rattle.model.specs.Lists.{rank_of, select_of, walk_of}
 use Rattle.model.specs.declared.Place.{Place}
 use Rattle.model.specs.Answers.{Answer, accepted, refused, over, ranks_of}
+use Rattle.model.specs.Refusals.{answer_of}
+use Rattle.model.specs.declared.refusal.Refusal.{Refusal}
 use Rattle.directory.specs.Directory.{stated_segments, entry_of}
 use Rattle.directory.specs.declared.Segment.{Segment}
 use Rattle.bodies.specs.Bodies.{accepts, names}
-use Rattle.rowset.specs.declared.Checked.{Checked}
-use Rattle.rowset.specs.declared.Checked.TheVariants as checked
-use Rattle.rowset.specs.declared.Ranked.{Ranked}
-use Rattle.rowset.specs.declared.Ranked.TheVariants as ranked
-use Rattle.rowset.specs.declared.Selected.{Selected}
-use Rattle.rowset.specs.declared.Selected.TheVariants as selected
-use Rattle.rowset.specs.declared.Filled.{Filled}
-use Rattle.rowset.specs.declared.Filled.TheVariants as filled
-use Rattle.rowset.specs.declared.Entry.{Entry}
-use Rattle.rowset.specs.declared.Entry.TheVariants as entry
 
 -- ---- the number and the values of each answer
 
-unfoldable pub checked_of : Checked → Answer
-checked_of (checked.Rows n) = accepted (n ∷ [])
-checked_of checked.Refused = refused 8
+unfoldable pub checked_of : Result ℕ Refusal → Answer
+checked_of result = answer_of (λ n. n ∷ []) result
 
-unfoldable pub ranked_of : Ranked → Answer
-ranked_of (ranked.Ordinal k) = accepted (k ∷ [])
-ranked_of ranked.Nothing = accepted []
-ranked_of ranked.Refused = refused 8
+unfoldable pub ranked_of : Result (Option ℕ) Refusal → Answer
+ranked_of result = answer_of option_to_list result
 
-unfoldable pub selected_of : Selected → Answer
-selected_of (selected.Position p) = accepted (p ∷ [])
-selected_of selected.Nothing = accepted []
-selected_of selected.Refused = refused 8
+unfoldable pub selected_of : Result (Option ℕ) Refusal → Answer
+selected_of result = answer_of option_to_list result
 
-unfoldable pub filled_of : Filled → Answer
-filled_of (filled.Written n) = accepted (n ∷ [])
-filled_of (filled.Refused k) = refused k
+unfoldable pub filled_of : Result ℕ Refusal → Answer
+filled_of result = answer_of (λ n. n ∷ []) result
 
 unfoldable pub values_of : Segment → List ℕ
 values_of s = s.start ∷ s.span ∷ s.count ∷ s.ordinal ∷ s.offset ∷ s.length ∷ s.tag ∷ []
 
-unfoldable pub entry_answer : Entry → Answer
-entry_answer (entry.Is s) = accepted (values_of s)
-entry_answer entry.Nothing = accepted []
-entry_answer entry.Refused = refused 8
+-- of an entry, or none
+unfoldable pub entry_values : Option Segment → List ℕ
+entry_values (Some s) = values_of s
+entry_values None = []
+
+unfoldable pub entry_answer : Result (Option Segment) Refusal → Answer
+entry_answer result = answer_of entry_values result
 
 -- ---- what each call answers: a body that is not accepted is refused by number 8
 

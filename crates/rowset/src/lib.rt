@@ -2,130 +2,100 @@
 
 #![tactic(auto)]
 
-ghost use Rattle.std.specs.Prelude.{◌≡◌, ◌≤◌, length};
-ghost use Rattle.model.specs.Answers.{accepted};
+ghost use Rattle.std.specs.Prelude.{◌≡◌, ◌≤◌, true, false, length, MatchResult};
+ghost use Rattle.std.specs.Option.{option_to_list};
+ghost use Rattle.bodies.specs.Bodies.{accepts};
 ghost use Rattle.rowset.specs.Calls.{checked_of, ranked_of, selected_of, filled_of, entry_answer, validate_of, rank_answer, select_answer, row_of, ranks_answer, ranks_left, walk_answer, walk_left, segment_answer};
 
+use bodies::Accepted;
 use directory::Segment;
 use model::Place;
+pub use model::Refusal;
+
+// What each call asks first: the body, if it is one of this tag and span.
+fn accepted<'a>(tag: u8, span: u32, body: &'a [u8]) -> Result<Accepted<'a>, Refusal>
+    ensures { MatchResult result (λ a. (accepts tag span body.now ≡ true) × (a.tag ≡ tag) × (a.span ≡ span) × (a.body.now ≡ body.now)) (λ r. (accepts tag span body.now ≡ false) × (r ≡ Refusal.Body)) }
+{
+    bodies::accept(tag, span, body).ok_or(Refusal::Body)
+}
 
 // The count of an accepted body.
-#[derive(Clone, Copy)]
-pub enum Checked {
-    Rows(u16),
-    Refused,
-}
-
-// The ordinal of a position, or nothing.
-#[derive(Clone, Copy)]
-pub enum Ranked {
-    Ordinal(u16),
-    Nothing,
-    Refused,
-}
-
-// The position of an ordinal, or nothing.
-#[derive(Clone, Copy)]
-pub enum Selected {
-    Position(u32),
-    Nothing,
-    Refused,
-}
-
-// How many answers were written, or the number of the refusal.
-#[derive(Clone, Copy)]
-pub enum Filled {
-    Written(usize),
-    Refused(u8),
-}
-
-// A directory entry, or nothing.
-#[derive(Clone, Copy)]
-pub enum Entry {
-    Is(Segment),
-    Nothing,
-    Refused,
-}
-
-pub fn validate(tag: u8, span: u32, body: &[u8]) -> Checked
+#[tactic(auto, unfolding(crate::specs::Calls::checked_of, crate::specs::Calls::validate_of, crate::specs::Calls::asked, model::specs::Tests::pick))]
+pub fn validate(tag: u8, span: u32, body: &[u8]) -> Result<u16, Refusal>
     ensures { checked_of result ≡ validate_of tag span body.now }
 {
-    if !bodies::check(tag, span, body) {
-        return Checked::Refused;
-    }
-    Checked::Rows(bodies::count(tag, span, body))
+    let accepted = accepted(tag, span, body)?;
+    Ok(accepted.count())
 }
 
 // An ordinal where the position is a row.
-fn of_place(q: Place) -> Ranked
+#[tactic(auto, unfolding(crate::specs::Calls::row_of, model::specs::Tests::pick))]
+fn of_place(q: Place) -> Option<u16>
     requires { q.below ≤ 65535 }
-    ensures { ranked_of result ≡ accepted (row_of q) }
+    ensures { option_to_list result ≡ row_of q }
 {
-    if q.present {
-        return Ranked::Ordinal(q.below as u16);
-    }
-    Ranked::Nothing
+    q.present.then_some(q.below as u16)
 }
 
-pub fn rank(tag: u8, span: u32, body: &[u8], position: u32) -> Ranked
+// The ordinal of a position, or nothing.
+#[tactic(auto, unfolding(crate::specs::Calls::ranked_of, crate::specs::Calls::rank_answer, crate::specs::Calls::asked, crate::specs::Calls::row_of, model::specs::Lists::rank_of, model::specs::Lists::place_of, model::specs::Tests::pick))]
+pub fn rank(tag: u8, span: u32, body: &[u8], position: u32) -> Result<Option<u16>, Refusal>
     ensures { ranked_of result ≡ rank_answer tag span body.now position }
 {
-    if !bodies::check(tag, span, body) {
-        return Ranked::Refused;
-    }
-    of_place(bodies::place(tag, span, body, position))
+    let accepted = accepted(tag, span, body)?;
+    Ok(of_place(accepted.place(position)))
 }
 
-pub fn select(tag: u8, span: u32, body: &[u8], ordinal: u16) -> Selected
+// The position of an ordinal, or nothing.
+#[tactic(auto, unfolding(crate::specs::Calls::selected_of, crate::specs::Calls::select_answer, crate::specs::Calls::asked, model::specs::Tests::pick))]
+pub fn select(tag: u8, span: u32, body: &[u8], ordinal: u16) -> Result<Option<u32>, Refusal>
     ensures { selected_of result ≡ select_answer tag span body.now ordinal }
 {
-    if !bodies::check(tag, span, body) {
-        return Selected::Refused;
+    let accepted = accepted(tag, span, body)?;
+    if accepted.count() <= ordinal {
+        return Ok(None);
     }
-    if bodies::count(tag, span, body) <= ordinal {
-        return Selected::Nothing;
-    }
-    Selected::Position(bodies::select(tag, span, body, ordinal))
+    Ok(Some(accepted.select(ordinal)))
 }
 
-// One answer for each query. The body is validated once.
-pub fn ranks(tag: u8, span: u32, body: &[u8], positions: &[u32], out: &mut [u32]) -> Filled
+// One answer for each query, and how many there are. The body is validated once.
+#[tactic(auto, unfolding(crate::specs::Calls::filled_of, crate::specs::Calls::ranks_answer, crate::specs::Calls::ranks_left, crate::specs::Calls::asked, model::specs::Tests::pick))]
+pub fn ranks(
+    tag: u8,
+    span: u32,
+    body: &[u8],
+    positions: &[u32],
+    out: &mut [u32],
+) -> Result<usize, Refusal>
     ensures result_value { filled_of result ≡ ranks_answer tag span body.now positions.now (length out.old) }
     ensures out_after { out.new ≡ ranks_left tag span body.now positions.now out.old }
 {
-    if !bodies::check(tag, span, body) {
-        return Filled::Refused(8);
-    }
+    let accepted = accepted(tag, span, body)?;
     if out.len() < positions.len() {
-        return Filled::Refused(7);
+        return Err(Refusal::Output);
     }
-    bodies::ranks(tag, span, body, positions, out);
-    Filled::Written(positions.len())
+    accepted.ranks(positions, out);
+    Ok(positions.len())
 }
 
-// The positions from an ordinal on, as many as fit or remain.
-pub fn walk(tag: u8, span: u32, body: &[u8], from: u16, out: &mut [u32]) -> Filled
+// The positions from an ordinal on, as many as fit or remain, and how many these are.
+#[tactic(auto, unfolding(crate::specs::Calls::filled_of, crate::specs::Calls::walk_answer, crate::specs::Calls::walk_left, crate::specs::Calls::asked, model::specs::Tests::pick))]
+pub fn walk(tag: u8, span: u32, body: &[u8], from: u16, out: &mut [u32]) -> Result<usize, Refusal>
     ensures result_value { filled_of result ≡ walk_answer tag span body.now from (length out.old) }
     ensures out_after { out.new ≡ walk_left tag span body.now from out.old }
 {
-    if !bodies::check(tag, span, body) {
-        return Filled::Refused(8);
-    }
-    Filled::Written(bodies::walk(tag, span, body, from, out))
+    let accepted = accepted(tag, span, body)?;
+    Ok(accepted.walk(from, out))
 }
 
 // The i-th entry of the directory: nothing for another tag, or past the end.
-pub fn segment(tag: u8, span: u32, body: &[u8], i: usize) -> Entry
+#[tactic(auto, unfolding(crate::specs::Calls::entry_answer, crate::specs::Calls::entry_values, crate::specs::Calls::segment_answer, crate::specs::Calls::asked, model::specs::Tests::pick))]
+pub fn segment(tag: u8, span: u32, body: &[u8], i: usize) -> Result<Option<Segment>, Refusal>
     ensures { entry_answer result ≡ segment_answer tag span body.now i }
 {
-    if !bodies::check(tag, span, body) {
-        return Entry::Refused;
+    accepted(tag, span, body)?;
+    if tag != 9 || directory::segments(body) <= i {
+        return Ok(None);
     }
-    if tag != 9 {
-        return Entry::Nothing;
-    }
-    if directory::segments(body) <= i {
-        return Entry::Nothing;
-    }
-    Entry::Is(directory::entry(body, i))
+    Ok(Some(directory::entry(body, i)))
 }

@@ -1,10 +1,10 @@
--- An accepted body of runs taken apart, and what the check's early answers are of the whole test.
+-- An accepted body of runs taken apart, and what the check's last test decides.
 -- Assumes nothing.
-use Rattle.std.proofs.Common.{◌≡◌, ℕ, ◌+◌, ◌*◌, ◌/◌, ◌<◌, ◌≤◌, Bool, true, false, List, length, ap, ◌∙◌, ⊎_elim, arith, eq-eqb, eqb-true, le-leb, leb-true}
+use Rattle.std.proofs.Common.{◌≡◌, ℕ, ◌+◌, ◌*◌, ◌/◌, ◌<◌, ◌≤◌, Bool, true, List, length, ⊎_elim, arith, eq-eqb, eqb-true, le-leb, leb-true}
 use Rattle.model.specs.Tests.{total}
 use Rattle.model.proofs.Sums.{total-least}
 use Rattle.model.proofs.Counted.{Count, counted_count, counted_right, both_pass}
-use Rattle.model.proofs.Tests.{order, refuse, both_true, both_left, both_right, all_at, all_from}
+use Rattle.model.proofs.Tests.{order, both_true, both_left, both_right, all_at, all_from}
 use Rattle.runs.specs.Runs.{stride_of, run_count, run_start, run_size, run_before, least, fits, run_fits, most_of, runs_stand, runs_accepts}
 
 -- ---- one run
@@ -56,23 +56,9 @@ pub some_run : {w : ℕ} {xs : List ℕ} {span count n : ℕ} → Parts w xs spa
 unfolding total
 some_run {n = n} p = ⊎_elim (λ l. l) (λ (g : n ≤ 0). let e : n ≡ 0 = omega arith in omega (arith, p.counts.some, rw e at p.sum)) (order 0 n)
 
--- ---- the answers of the check
+-- ---- the answer of the check where the other tests pass
 
 module _ (w : ℕ) (xs : List ℕ) (span count : ℕ) where
-  pub check_none : count ≡ 0 → false ≡ runs_accepts w xs span count
-  check_none z = refuse _ (λ e. omega (arith, (accepts_parts w xs span count e).counts.some))
-
-  pub check_over : span < count → false ≡ runs_accepts w xs span count
-  check_over l = refuse _ (λ e. omega (arith, (accepts_parts w xs span count e).counts.within))
-
-  pub check_many : (n : ℕ) → n ≡ length xs / stride_of w → count < n → false ≡ runs_accepts w xs span count
-  unfolding run_count
-  check_many n q l = refuse _ (λ e. omega (arith, parts_few (accepts_parts w xs span count e)))
-
-  pub check_size : (n size : ℕ) → n ≡ length xs / stride_of w → size ≡ n * stride_of w → (size ≡ length xs → ⊥) → false ≡ runs_accepts w xs span count
-  unfolding run_count
-  check_size n size q s d = refuse _ (λ e. d (s ∙ ap (λ (m : ℕ). m * stride_of w) q ∙ (accepts_parts w xs span count e).sized))
-
   pub check_stand : {n size most : ℕ} {r : Bool} → n ≡ length xs / stride_of w → size ≡ n * stride_of w → Count span count → size ≡ length xs
       → most ≡ most_of w span → r ≡ runs_stand w xs most count n → r ≡ runs_accepts w xs span count
   unfolding runs_accepts run_count

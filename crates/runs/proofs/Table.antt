@@ -1,6 +1,7 @@
 -- Reading a table of runs: entries inside the bytes, and what a flag loop over them keeps.
 -- Assumes nothing.
 use Rattle.std.proofs.Common.{◌≡◌, ℕ, ◌+◌, ◌*◌, ◌/◌, ◌<◌, ◌≤◌, Bool, true, ◌&&◌, eqb, leb, List, refl, ap, zero-add, div-mul-le_self, add-one, arith}
+use Rattle.std.proofs.Math.Bool.{and_assoc}
 use Rattle.model.specs.Tests.{all, total}
 use Rattle.model.proofs.Counted.{and_both}
 use Rattle.fields.specs.Le.{le}
@@ -10,9 +11,9 @@ use Rattle.runs.specs.Asked.{entry_of}
 use Rattle.runs.specs.declared.Entry.{Entry}
 
 pub fits_is : (start size before low rows most : ℕ)
-    → (leb low start && (leb 1 size && (leb (start + size) most && eqb before rows))) ≡ fits start size before low rows most
+    → (((leb low start && leb 1 size) && leb (start + size) most) && eqb before rows) ≡ fits start size before low rows most
 unfolding fits
-fits_is start size before low rows most = simp and_both
+fits_is start size before low rows most = rw (and_assoc (leb low start && leb 1 size) (leb (start + size) most) (eqb before rows)) (rw and_assoc (simp and_both))
 
 -- an entry from its three fields
 pub entry_is : (w : ℕ) (xs : List ℕ) (i : ℕ) {at v start size before : ℕ} → at ≡ i * stride_of w → v ≡ w → start ≡ le w xs at → size ≡ le 2 xs (v + at) → before ≡ le 2 xs (v + 2 + at)

@@ -3,8 +3,8 @@
 use mathlib.Core.Path.{◌≡◌, refl, sym, ◌∙◌}
 use mathlib.Core.Bool.{Bool, true, false, cond}
 use mathlib.Core.Logic.{⊎_elim}
-use Prim.Native.Nat.{ℕ, zero, suc, ◌+◌, ◌-◌, ◌*◌, ◌/◌, ◌<◌, ◌≤◌}
-use native.Mathlib.Nat.{zero-add, eq-or-lt_of_le, mul-le-mul_right}
+use Prim.Native.Nat.{ℕ, zero, suc, ◌+◌, ◌-◌, ◌*◌, ◌/◌, ◌<◌, ◌≤◌, min}
+use native.Mathlib.Nat.{eq-or-lt_of_le}
 use native.Mathlib.Omega.{arith}
 use lib.Dec.{leb}
 use borrow.Author.Tests.{le-leb, lt-ltb, le-ltb, leb-true, leb-false}
@@ -13,18 +13,18 @@ use Rattle.search.specs.Search.{mid, bsearch, find, Falling, Cut, allowed, up_to
 
 -- ---- the comparison as a digit
 
--- no field passes 2^32: to add 2^32 or what is more to the key comes to the same
-pub past_all : {v i : ℕ} (key : ℕ) → v < 4294967296 → 4294967296 ≤ i → leb v (key + 4294967296) ≡ leb v (key + i)
-past_all {v} {i} key h g = le-leb v (key + 4294967296) (omega arith) ∙ sym (le-leb v (key + i) (omega arith))
+-- no field passes 2^32: to add no more than 2^32 to the key comes to the same
+pub past_all : {v : ℕ} (i key : ℕ) → v < 4294967296 → leb v (key + min i 4294967296) ≡ leb v (key + i)
+past_all {v} i key h =
+    ⊎_elim
+    (λ l. let e : min i 4294967296 ≡ i = omega arith in rw e)
+    (λ g. le-leb v (key + min i 4294967296) (omega arith) ∙ sym (le-leb v (key + i) (omega arith)))
+    (order i 4294967296)
 
 -- 1 where v is at most the bound, else 0
 pub digit : {v bound q : ℕ} (b : Bool) → leb v bound ≡ b → (v ≤ bound → q ≡ 1) → (bound < v → q ≡ 0) → (q ≡ cond b 1 0) × (q ≤ 1)
 digit {v} {bound} true e one none = (one (leb-true v bound e), omega (arith, one (leb-true v bound e)))
 digit {v} {bound} false e one none = (none (leb-false v bound e), omega (arith, none (leb-false v bound e)))
-
--- 1 or 0 times x
-pub once : {up : ℕ} (x : ℕ) → up ≤ 1 → up * x ≤ x
-once {up} x h = omega (arith, mul-le-mul_right x h)
 
 -- a test `f i ≤ key` falls where f does not
 pub falls_level : (f : ℕ → ℕ) (key n : ℕ) → ((i j : ℕ) → i ≤ j → j < n → f i ≤ f j) → Falling (up_to false f key) n
@@ -167,9 +167,6 @@ module _ (t : ℕ → Bool) where
     pub ordered : lo ≤ hi
     pub inside : hi ≤ n
     pub same : find t lo hi ≡ find t 0 n
-
-  pub searching_start : (n : ℕ) → Searching n 0 (0 + n)
-  searching_start n = rw zero-add (record { ordered = omega arith; inside = omega arith; same = refl })
 
   searching_up : (n lo hi : ℕ) → Searching n lo hi → lo < hi → t (mid lo hi) ≡ true → Searching n (mid lo hi + 1) hi
   searching_up n lo hi s l e = record { ordered = omega arith; inside = s.inside; same = sym (find_up lo hi l e) ∙ s.same }

@@ -11,10 +11,7 @@ ghost use Rattle.search.specs.Search.{find, entry, up_to, allowed};
 fn extra(i: usize, gaps: bool) -> u64
     ensures { (result ≤ 4294967296) × ((v key : ℕ) → v < 4294967296 → leb v (key + result) ≡ leb v (allowed gaps key i)) }
 {
-    if gaps {
-        return if i < 4294967296 { i as u64 } else { 4294967296 };
-    }
-    0
+    if gaps { (i as u64).min(4294967296) } else { 0 }
 }
 
 // 1 where v is at most key or, where gaps are counted, at most key + i, else 0. It is a digit of a difference and not a
@@ -22,7 +19,7 @@ fn extra(i: usize, gaps: bool) -> u64
 fn reached(v: u32, key: u32, i: usize, gaps: bool) -> usize
     ensures { (result ≡ cond (leb v (allowed gaps key i)) 1 0) × (result ≤ 1) }
 {
-    ((8589934592 + extra(i, gaps) + (key as u64) - (v as u64)) / 8589934592) as usize
+    ((8589934592 + extra(i, gaps) + u64::from(key) - u64::from(v)) / 8589934592) as usize
 }
 
 // The first of n fields that is above key or, where gaps are counted, the first i whose field is above key + i.

@@ -8,7 +8,7 @@ use native.Mathlib.Numerals.{add-one}
 use native.Mathlib.Omega.{arith}
 use lib.Dec.{eqb, ltb}
 use lib.ListN.{length, get_or}
-use borrow.Author.Tests.{ltb-true, lt-ltb, le-leb, eqb-true, eq-eqb, ne_eqb}
+use borrow.Author.Tests.{ltb-true, lt-ltb, eqb-true, eq-eqb, ne_eqb}
 use Rattle.model.specs.Tests.{both, all}
 use Rattle.model.proofs.Tests.{same_test, both_true, both_left, both_right, both_first, all_at, all_from, pick_true, pick_false}
 use Rattle.gather_core.specs.Gather.{up_at, rises}
@@ -51,10 +51,6 @@ ends_tested n ends last r l e = rw (l, e, and_both (ltb 0 (get_or ends 0 0)) (ri
 
 -- ---- the second part
 
-pub near_low : (rows : List ℕ) (a b : ℕ) → get_or rows (b - 1) 0 ≤ get_or rows a 0 → true ≡ near rows a b
-unfolding near
-near_low rows a b h = let z : get_or rows (b - 1) 0 - get_or rows a 0 ≤ 65534 = omega arith in sym (le-leb _ _ z)
-
 -- a loop over the seeds, before seed i
 pub record Nearing (rows ends : List ℕ) (ok : Bool) (a i : ℕ) : Type 0 where
   pub within : i ≤ length ends
@@ -77,9 +73,6 @@ module _ (rows ends : List ℕ) where
       from = rw (add-one i) e;
       so = flag_step (near_at rows ends) i k.so (rw (q, k.from, e));
     }
-
-  pub nearing_end : (ok : Bool) (a i : ℕ) → Nearing rows ends ok a i → length ends ≤ i → ok ≡ all (near_at rows ends) (length ends)
-  nearing_end ok a i k h = let w = k.within in let e : i ≡ length ends = omega arith in rw e at k.so
 
 -- ---- test 4 is both of its parts
 

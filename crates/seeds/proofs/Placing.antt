@@ -2,7 +2,8 @@
 -- Assumes nothing.
 use mathlib.Core.Path.{◌≡◌, refl, ap, ◌∙◌}
 use mathlib.Core.Logic.{⊎_elim}
-use mathlib.Core.List.{List}
+use mathlib.Core.List.{List, map}
+use Rattle.std.proofs.lemmas.List.{take-map, drop-map}
 use Prim.Native.Nat.{ℕ, ◌+◌, ◌-◌, ◌*◌, ◌<◌, ◌≤◌}
 use native.Mathlib.Numerals.{add-one}
 use native.Mathlib.Omega.{arith}
@@ -12,9 +13,9 @@ use Rattle.model.proofs.Tests.{last_or_before}
 use Rattle.model.proofs.Rising.{rising_take, rising_drop}
 use Rattle.stats.specs.declared.Stats.{Stats}
 use Rattle.stats.specs.Statistics.{stats_of}
-use Rattle.stats.specs.Rows.{Covered}
+use Rattle.stats.specs.Rows.{Covered, Within}
 use Rattle.model.proofs.Positions.{positions_take, positions_drop}
-use Rattle.stats.proofs.Positions.{covered_few}
+use Rattle.stats.proofs.Positions.{covered_within}
 use Rattle.gather_core.specs.Seeds.{start_of, windows}
 use Rattle.links.specs.Tables.{put_stat}
 use Rattle.links.proofs.Tables.{stat_length, stat_here, stat_other}
@@ -29,12 +30,16 @@ use Rattle.seeds.proofs.Windows.{windows_each, window_only, ends_following}
 -- ---- a part of rows
 
 module _ (start : ℕ) (rows : List ℕ) (a b : ℕ) (k : Ranged start rows a b) where
-  pub part_covered : Covered start (take (b - a) (drop a rows))
+  part_covered : Covered start (take (b - a) (drop a rows))
   unfolding part
   part_covered = let s = k.some in record { some = rw (part_length rows a b (omega arith) k.inside) (omega arith); rising = rising_take (b - a) (rising_drop a k.covered.rising) }
 
-  pub part_few : (1 ≤ length (take (b - a) (drop a rows))) × (length (take (b - a) (drop a rows)) ≤ 4294967295)
-  part_few = (part_covered.some, covered_few start (take (b - a) (drop a rows)) part_covered)
+  pub part_within : Within start (take (b - a) (drop a rows))
+  part_within = covered_within part_covered
+
+-- the numbers of a part are the part of the numbers
+pub map_part : {A : Type 0} (f : A → ℕ) (rows : List A) (a b : ℕ) → map f (take (b - a) (drop a rows)) ≡ take (b - a) (drop a (map f rows))
+map_part f rows a b = rw (drop-map f a rows, take-map f (b - a) (drop a rows))
 
 -- its positions are the part of the positions
 pub part_positions : (start : ℕ) (rows : List ℕ) (a b : ℕ) → positions_of start (take (b - a) (drop a rows)) ≡ part (positions_of start rows) a b
@@ -105,6 +110,3 @@ module _ (start : ℕ) (rows seeds : List ℕ) (n : ℕ) (before : List ℕ) (s 
                   (last_or_before (rw (add-one i) at l));
             });
       }
-
-  pub placing_end : (w : List ℕ) (a i : ℕ) → Placing start rows seeds n before w a i → n ≤ i → Placed start rows seeds n before w
-  placing_end w a i k h = let l = k.within in let e : i ≡ n = omega arith in rw e at k.so

@@ -1,7 +1,8 @@
 -- The windows of rows: how many there are, and where each ends.
 -- Assumes nothing.
 use mathlib.Core.Path.{◌≡◌, refl, sym, ◌∙◌}
-use mathlib.Core.Bool.{Bool, true, false}
+use mathlib.Core.Bool.{Bool, true, false, not}
+use Rattle.std.specs.Int.{from_bool}
 use mathlib.Core.Logic.{⊎_elim}
 use mathlib.Core.List.{List, [], ◌∷◌, ◌++◌}
 use Prim.Native.Nat.{ℕ, zero, suc, ◌+◌, ◌-◌, ◌<◌, ◌≤◌}
@@ -9,8 +10,7 @@ use native.Mathlib.Numerals.{add-one}
 use native.Mathlib.Omega.{arith}
 use lib.ListN.{length, get_or, length-append, get_or-append}
 use lib.Seq.{get_or_at}
-use Rattle.model.specs.Tests.{pick}
-use Rattle.model.proofs.Tests.{either, order, never, strictly, last_or_before, same_or_not, both_left, pick_true, pick_false}
+use Rattle.model.proofs.Tests.{either, order, never, strictly, last_or_before, same_or_not, both_left}
 use Rattle.gather_core.specs.Seeds.{start_of, same_at, cuts, windows}
 use Rattle.gather_core.proofs.Windows.{cuts-same, cuts_more}
 use Rattle.planning.specs.Refusals.{given_fit, ends_of}
@@ -33,19 +33,15 @@ pub counting_start : (rows : List ℕ) → Counting rows 1 0
 unfolding cuts
 counting_start rows = record { within = omega arith; small = omega arith; so = refl }
 
-pub counting_next : (rows : List ℕ) (n i k : ℕ) → Counting rows n i → i + 1 < length rows → (t : Bool) → t ≡ together (get_or rows i 0) (get_or rows (i + 1) 0) → k ≡ pick t 0 1 → k ≤ 1 → Counting rows (n + k) (i + 1)
-counting_next rows n i k c h t q p l =
+pub counting_next : (rows : List ℕ) (n i : ℕ) → Counting rows n i → i + 1 < length rows → (t : Bool) → t ≡ together (get_or rows i 0) (get_or rows (i + 1) 0) → Counting rows (n + from_bool (not t)) (i + 1)
+counting_next rows n i c h true q =
     let s = c.so in
-    let e : k ≡ pick (same_at rows i) 0 1 = rw (q ∙ together-same rows i) at p in
-    record {
-      within = omega arith;
-      small = omega (arith, c.small);
-      so =
-          ⊎_elim
-          (λ t. let z : k ≡ 0 = e ∙ pick_true _ _ t in rw (add-one i, cuts-same rows i t) (omega arith))
-          (λ t. let z : k ≡ 1 = e ∙ pick_false _ _ t in rw (add-one i, cuts_more rows i t, length-append) (omega arith))
-          (either (same_at rows i));
-    }
+    let e : same_at rows i ≡ true = sym (q ∙ together-same rows i) in
+    record { within = omega arith; small = omega (arith, c.small); so = rw (add-one i, cuts-same rows i e) (omega arith) }
+counting_next rows n i c h false q =
+    let s = c.so in
+    let e : same_at rows i ≡ false = sym (q ∙ together-same rows i) in
+    record { within = omega arith; small = omega (arith, c.small); so = rw (add-one i, cuts_more rows i e, length-append) (omega arith) }
 
 pub counting_end : (rows : List ℕ) (n i : ℕ) → Counting rows n i → length rows ≤ i + 1 → n ≡ length (windows rows)
 unfolding windows
@@ -142,9 +138,6 @@ pub record Walking (rows : List ℕ) (a j : ℕ) : Type 0 where
   pub same : (k : ℕ) → a ≤ k → suc k < j → same_at rows k ≡ true
 
 module _ (rows : List ℕ) (a : ℕ) where
-  pub walking_start : a < length rows → Walking rows a (a + 1)
-  walking_start h = record { begun = omega arith; within = omega arith; same = λ k l u. absurd (omega arith) }
-
   module _ (j : ℕ) (k : Walking rows a j) (t : Bool) (q : t ≡ together (get_or rows (j - 1) 0) (get_or rows j 0)) where
     before_same : t ≡ same_at rows (j - 1)
     before_same = let b = k.begun in let e : j - 1 + 1 ≡ j = omega arith in q ∙ rw e at (together-same rows (j - 1))
@@ -160,9 +153,6 @@ module _ (rows : List ℕ) (a : ℕ) where
 
     pub walking_stop : t ≡ false → Window rows a j
     walking_stop e = record { some = k.begun; inside = k.within; same = k.same; other = λ l. sym before_same ∙ e }
-
-  pub walking_end : (j : ℕ) → Walking rows a j → length rows ≤ j → Window rows a j
-  walking_end j k h = record { some = k.begun; inside = k.within; same = k.same; other = λ l. absurd (omega arith) }
 
 -- ---- the ends of seeds, given or windows
 

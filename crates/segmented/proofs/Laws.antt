@@ -40,9 +40,6 @@ module _ (span : ℕ) (xs : List ℕ) where
   unfolding segmented_accepts
   parts_decide d e = both_pass d e
 
-pub parts_end : {ok : Bool} {n i : ℕ} (xs : List ℕ) → i ≤ n → n ≤ i → n ≡ stated_segments xs → ok ≡ all (part_accepts xs) i → ok ≡ all (part_accepts xs) (stated_segments xs)
-parts_end {ok} {n} {i} xs l g e p = let q : i ≡ stated_segments xs = omega arith in rw q at p
-
 -- ---- an entry that was read, and what is known of its segment
 
 pub entry_start : {e : Segment} {p : ℕ} (xs : List ℕ) (i : ℕ) → e ≡ entry_of xs i → start_at xs i ≤ p → e.start ≤ p

@@ -1,6 +1,6 @@
 -- What an accepted segmented body names, and that its readers answer that list.
 -- Assumes nothing.
-use Rattle.std.proofs.Common.{◌≡◌, ℕ, ◌+◌, ◌-◌, ◌<◌, ◌≤◌, true, false, List, length, get_or, take, drop, sym, ◌∙◌, mod-eq_of_lt, arith, length-drop, length-take-le}
+use Rattle.std.proofs.Common.{◌≡◌, ℕ, ◌+◌, ◌-◌, ◌<◌, ◌≤◌, true, false, List, length, get_or, drop, sym, ◌∙◌, mod-eq_of_lt, arith}
 use Rattle.fields.specs.Le.{Bytes}
 use Rattle.fields.proofs.Laws.{bytes_tail, bytes_front}
 use Rattle.model.specs.Lists.{Rising, below, has, place_of, walk_of, moved}
@@ -13,17 +13,9 @@ use Rattle.directory.specs.declared.Segment.{Segment}
 use Rattle.directory.proofs.Parts.{Directory, accepts_directory}
 use Rattle.directory.proofs.Facts.{payload-length, no_wrap, Holds}
 use Rattle.directory.proofs.Names.{Named, Placed, names_rising, names-length, place_none, place_in_lem, select_in_lem}
-use Rattle.forms.specs.Forms.{local_sized}
 use Rattle.forms.proofs.Laws.{local_sized_lem, local_rising, local_length, local_place_lem, local_select_lem, local_walk_lem}
-use Rattle.segmented.specs.Segmented.{part_accepts, part_names, segmented_accepts, segmented_names, part_by, PartReadable, counted_from, place_in, select_in, walk_in}
+use Rattle.segmented.specs.Segmented.{part_accepts, part_names, segmented_accepts, segmented_names, PartReadable, counted_from, place_in, select_in, walk_in}
 use Rattle.segmented.proofs.Laws.{cut_part, part_inside}
-
--- the part that the code cuts out has the length that its readers want
-pub part-sized : (e : Segment) (xs : List ℕ) → PartReadable e xs → local_sized e.tag (length (part_by e xs)) e.span e.count ≡ true
-part-sized e xs r =
-    let s : e.offset + e.length - e.offset ≡ e.length = omega arith in
-    let n : length (take e.length (drop e.offset xs)) ≡ e.length = length-take-le e.length (drop e.offset xs) (rw (length-drop e.offset xs) (omega (arith, r.inside))) in
-    rw (s, n) r.sized
 
 module _ (span : ℕ) (xs : List ℕ) (ok : segmented_accepts span xs ≡ true) where
   pub accepted_directory : directory_accepts xs span ≡ true
@@ -84,28 +76,28 @@ module _ (span : ℕ) (xs : List ℕ) (ok : segmented_accepts span xs ≡ true) 
       unfolding place_of segmented_names
       no_segment z = let w = place_none directory_of parts_named p size found z in rw (w.0, w.1)
 
-      pub placed : (f ≡ 0 → ⊥) → Placed xs (part_names xs) p (f - 1)
-      placed z = place_in_lem directory_of parts_named p size found (omega arith)
+      -- the last of them is segment i
+      pub placed : {i : ℕ} → 1 ≤ f → i ≡ f - 1 → Placed xs (part_names xs) p i
+      placed z j = rw j (place_in_lem directory_of parts_named p size found z)
 
       -- behind the segment's span all its rows are before p
-      pub segment_passed : {e : Segment} → (f ≡ 0 → ⊥) → e ≡ entry_of xs (f - 1) → e.span ≤ p - e.start → record { below = e.ordinal + e.count; present = false } ≡ place_of (segmented_names xs) p
+      pub segment_passed : {e : Segment} {i : ℕ} → 1 ≤ f → i ≡ f - 1 → e ≡ entry_of xs i → e.span ≤ p - e.start → record { below = e.ordinal + e.count; present = false } ≡ place_of (segmented_names xs) p
       unfolding place_of segmented_names entry_of
-      segment_passed z q h =
-          let i = f - 1 in
-          let w = placed z in
+      segment_passed {i = i} z j q h =
+          let w = placed z j in
           let rises = parts_named.rising i w.inside in
           let past : span_at xs i ≤ p - start_at xs i = rw q at h in
           let whole : below (part_names xs i) (p - start_at xs i) ≡ count_at xs i = below_whole rises (p - start_at xs i) past ∙ parts_named.sized i w.inside in
           let none : has (part_names xs i) (p - start_at xs i) ≡ false = has_outside rises (p - start_at xs i) (λ u. omega (arith, u.1)) in
           rw (q, w.rows, w.present, whole, none)
 
-      pub segment_answers : {e : Segment} {r : Place} → (f ≡ 0 → ⊥) → e ≡ entry_of xs (f - 1) → r ≡ place_in e xs p → r ≡ place_of (segmented_names xs) p
+      pub segment_answers : {e : Segment} {r : Place} {i : ℕ} → 1 ≤ f → i ≡ f - 1 → e ≡ entry_of xs i → r ≡ place_in e xs p → r ≡ place_of (segmented_names xs) p
       unfolding place_of segmented_names counted_from
-      segment_answers z q e =
-          let w = placed z in
+      segment_answers {i = i} z j q e =
+          let w = placed z j in
           let most : below (names_of xs (part_names xs)) p ≤ stated_count xs = omega (arith, below_most (names_of xs (part_names xs)) p, names-length directory_of parts_named) in
-          let small : ordinal_at xs (f - 1) + below (part_names xs (f - 1)) (p - start_at xs (f - 1)) < 4294967296 = omega (arith, few_rows, w.rows) in
-          e ∙ segment_place (f - 1) w.inside q p ∙ rw (mod-eq_of_lt small, w.rows, w.present)
+          let small : ordinal_at xs i + below (part_names xs i) (p - start_at xs i) < 4294967296 = omega (arith, few_rows, w.rows) in
+          e ∙ segment_place i w.inside q p ∙ rw (mod-eq_of_lt small, w.rows, w.present)
 
     -- ---- select, as the code finds it: f segments state at most k rows before them
     module _ {f n : ℕ} (k : ℕ) (size : n ≡ stated_segments xs) (found : f ≡ ordinals_to xs n k) (h : k < stated_count xs) where

@@ -1,15 +1,13 @@
 -- The walk over segments: what is written so far, and what is left.
 -- Assumes nothing.
-use Rattle.std.proofs.Common.{◌≡◌, ℕ, ◌+◌, ◌-◌, ◌<◌, ◌≤◌, min, true, List, [], ◌++◌, length, take, drop, sym, refl, ap, ◌∙◌, append_assoc, add-one, arith, length-append, length-drop, drop_of_length-le, length-take, drop-drop}
+use Rattle.std.proofs.Common.{◌≡◌, ℕ, ◌+◌, ◌-◌, ◌<◌, ◌≤◌, min, true, List, [], ◌++◌, length, take, drop, sym, refl, ap, ◌∙◌, append_assoc, add-one, arith, length-append, drop_of_length-le, length-take, drop-drop}
 use lib.Seq.{take-nil}
-use borrow.Rule.Slice.PartMut.{mid_of, put_mid}
 use Rattle.model.specs.Lists.{walk_of, moved}
 use Rattle.model.specs.Answers.{over, Walked}
 use Rattle.model.proofs.Writing.{length_moved, over_none, over-length, over-take, over-drop, walks_none}
 use Rattle.directory.specs.Directory.{stated_segments, stated_count, start_at, count_at, ordinal_at, rows_before, entry_of}
 use Rattle.directory.specs.declared.Segment.{Segment}
 use Rattle.directory.proofs.Facts.{Holds}
-use Rattle.model.proofs.Taking.{tail_is, tail_put}
 use Rattle.directory.proofs.Walks.{Walking, walking_next, walking_end, walking_full}
 use Rattle.fields.specs.Le.{Bytes}
 use Rattle.segmented.specs.Segmented.{part_names, segmented_names, segmented_accepts, WalkedAt}
@@ -22,18 +20,6 @@ pub record Going (xs : List ℕ) (k : ℕ) (before out : List ℕ) (i from at : 
   pub fits : at ≤ length before
   pub front : out ≡ over rows before
   pub walking : Walking xs (part_names xs) k (length before) i from rows
-
--- ---- a part of the lent slice that came back
-
-back : {ys : List ℕ} (W : List ℕ) (at : ℕ) (xs : List ℕ) → ys ≡ over W (mid_of at (length xs - at) xs) → put_mid at (length xs - at) xs ys ≡ take at xs ++ over W (drop at xs)
-back {ys} W at xs e = tail_put at xs ys ∙ ap (λ (l : List ℕ). take at xs ++ l) (e ∙ rw (tail_is at xs))
-
--- a walk into the part, whose rows go by the room that it has, is a walk behind the first at
-pub walked_back : {n : ℕ} (rows : ℕ → List ℕ) (at : ℕ) (xs ys : List ℕ)
-    → Walked (rows (length (mid_of at (length xs - at) xs))) (mid_of at (length xs - at) xs) ys n → WalkedAt (rows (length xs - at)) at xs (put_mid at (length xs - at) xs ys) n
-walked_back rows at xs ys w =
-    let m : length (mid_of at (length xs - at) xs) ≡ length xs - at = ap length (tail_is at xs) ∙ length-drop at xs in
-    record { written = back (rows (length xs - at)) at xs (rw m at w.written); number = rw m at w.number }
 
 -- ---- the loop
 

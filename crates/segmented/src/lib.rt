@@ -2,15 +2,25 @@
 
 #![tactic(auto)]
 
-ghost use Rattle.std.specs.Prelude.{◌≡◌, ◌+◌, ◌-◌, ◌<◌, ◌≤◌, true, length, slice_index};
+ghost use Rattle.std.specs.Prelude.{◌≡◌, ◌+◌, ◌-◌, ◌^◌, ◌<◌, ◌≤◌, true, is_some, IfSome, length, slice_index};
+ghost use Rattle.fields.specs.Le.{Bytes};
 ghost use Rattle.model.specs.Tests.{all};
 ghost use Rattle.model.specs.Lists.{place_of, walk_of};
 ghost use Rattle.model.specs.Answers.{over, rank_or_none, ranks_of, Walked};
 ghost use Rattle.directory.specs.Directory.{stated_count, stated_segments, count_at, rows_before, directory_accepts};
-ghost use Rattle.segmented.specs.Segmented.{part_accepts, segmented_accepts, segmented_names, PartReadable, place_in, select_in, walk_in, WalkedAt};
+ghost use Rattle.segmented.specs.Segmented.{part_accepts, segmented_accepts, segmented_names, part_by, PartReadable, place_in, select_in, walk_in, WalkedAt};
 
 use directory::Segment;
 use model::Place;
+
+// The part of the body that an entry names.
+fn part(e: Segment, body: &[u8]) -> &[u8]
+    requires { e.offset + e.length ≤ length body.now }
+    ensures { result.now ≡ part_by e body.now }
+{
+    let at = usize::from(e.offset);
+    &body[at..at + usize::from(e.length)]
+}
 
 // Whether the part of segment i is accepted.
 fn part_ok(body: &[u8], span: u32, i: usize) -> bool
@@ -18,9 +28,7 @@ fn part_ok(body: &[u8], span: u32, i: usize) -> bool
     ensures { result ≡ part_accepts body.now i }
 {
     let e = directory::entry(body, i);
-    let at = e.offset as usize;
-    let end = at + e.length as usize;
-    forms::check(e.tag, &body[at..end], e.span as u32, e.count)
+    forms::check(e.tag, part(e, body), u32::from(e.span), e.count)
 }
 
 // Whether every part is accepted.
@@ -30,10 +38,8 @@ fn parts_ok(body: &[u8], span: u32) -> bool
 {
     let n = directory::segments(body);
     let mut ok = true;
-    let mut i = 0;
-    while i < n {
-        ok = ok & part_ok(body, span, i);
-        i += 1;
+    for i in 0..n {
+        ok &= part_ok(body, span, i);
     }
     ok
 }
@@ -42,115 +48,52 @@ fn parts_ok(body: &[u8], span: u32) -> bool
 pub fn check(span: u32, body: &[u8]) -> bool
     ensures { result ≡ segmented_accepts span body.now }
 {
-    if !directory::check(body, span) {
-        return false;
-    }
-    parts_ok(body, span)
+    directory::check(body, span) && parts_ok(body, span)
 }
 
 // Where p stands in the part of its segment, counted over all segments.
+#[tactic(auto, unfolding(crate::specs::Segmented::place_in, crate::specs::Segmented::counted_from))]
 fn place_in(e: Segment, body: &[u8], p: u32) -> Place
     requires { PartReadable e body.now × (e.start ≤ p) }
     ensures { result ≡ place_in e body.now p }
 {
-    let at = e.offset as usize;
-    let end = at + e.length as usize;
-    let local = forms::place(e.tag, &body[at..end], e.span as u32, e.count, p - e.start);
+    let local = forms::place(
+        e.tag,
+        part(e, body),
+        u32::from(e.span),
+        e.count,
+        p - e.start,
+    );
     Place {
-        below: std::num::wrapping_add_u32(e.ordinal as u32, local.below),
+        below: u32::from(e.ordinal).wrapping_add(local.below),
         present: local.present,
     }
 }
 
-// Where p stands: in the last segment that starts at p or before, or behind it, where its part need not be read.
-pub fn place(span: u32, body: &[u8], p: u32) -> Place
-    requires { segmented_accepts span body.now ≡ true }
-    ensures { result ≡ place_of (segmented_names body.now) p }
-{
-    let n = directory::segments(body);
-    let found = directory::by_start(body, n, p);
-    if found == 0 {
-        return Place {
-            below: 0,
-            present: false,
-        };
-    }
-    let e = directory::entry(body, found - 1);
-    if e.span as u32 <= p - e.start {
-        return Place {
-            below: e.ordinal as u32 + e.count as u32,
-            present: false,
-        };
-    }
-    place_in(e, body, p)
-}
-
-// The rank of p, or the number that stands for nothing.
-fn rank(span: u32, body: &[u8], p: u32) -> u32
-    requires { segmented_accepts span body.now ≡ true }
-    ensures { result ≡ rank_or_none (place_of (segmented_names body.now) p) }
-{
-    if span <= p {
-        return 4294967295;
-    }
-    model::rank_or(place(span, body, p))
-}
-
-// The same of many positions.
-pub fn ranks(span: u32, body: &[u8], positions: &[u32], out: &mut [u32])
-    requires { (segmented_accepts span body.now ≡ true) × (length positions.now ≤ length out.old) }
-    ensures { out.new ≡ over (ranks_of (segmented_names body.now) positions.now) out.old }
-{
-    let asked = positions.len();
-    let mut i = 0;
-    while i < asked {
-        out[i] = rank(span, body, positions[i]);
-        i += 1;
-    }
-}
-
 // The row of ordinal k, which the segment holds.
+#[tactic(auto, unfolding(crate::specs::Segmented::select_in))]
 fn select_in(e: Segment, body: &[u8], k: u16) -> u32
     requires { PartReadable e body.now × (e.ordinal ≤ k) × (k < e.ordinal + e.count) }
     ensures { result ≡ select_in e body.now k }
 {
-    let at = e.offset as usize;
-    let end = at + e.length as usize;
-    std::num::wrapping_add_u32(
-        e.start,
-        forms::select(e.tag, &body[at..end], e.span as u32, e.count, k - e.ordinal),
-    )
-}
-
-// The row of ordinal k: in the last segment that states at most k rows before it.
-pub fn select(span: u32, body: &[u8], k: u16) -> u32
-    requires { (segmented_accepts span body.now ≡ true) × (k < stated_count body.now) }
-    ensures { result ≡ slice_index (segmented_names body.now) k }
-{
-    let n = directory::segments(body);
-    let found = directory::by_ordinal(body, n, k);
-    if found == 0 {
-        return 0;
-    }
-    select_in(directory::entry(body, found - 1), body, k)
+    let local = forms::select(
+        e.tag,
+        part(e, body),
+        u32::from(e.span),
+        e.count,
+        k - e.ordinal,
+    );
+    e.start.wrapping_add(local)
 }
 
 // The rows of one segment from its row number skip on, as many as fit or remain.
+#[tactic(auto, unfolding(crate::specs::Segmented::walk_in))]
 fn walk_in(e: Segment, body: &[u8], skip: u16, out: &mut [u32]) -> usize
     requires { PartReadable e body.now }
     ensures { Walked (walk_in e body.now skip (length out.old)) out.old out.new result }
 {
-    let at = e.offset as usize;
-    let end = at + e.length as usize;
-    forms::walk(
-        e.tag,
-        &body[at..end],
-        e.span as u32,
-        e.count,
-        skip,
-        e.start,
-        out,
-    )
+    let own = part(e, body);
+    forms::walk(e.tag, own, u32::from(e.span), e.count, skip, e.start, out)
 }
 
 // The same behind the first at of out.
@@ -161,40 +104,116 @@ fn walk_at(e: Segment, body: &[u8], skip: u16, out: &mut [u32], at: usize) -> us
     walk_in(e, body, skip, &mut out[at..])
 }
 
-// The rows from row number skip of segment first on, segment after segment, as many as fit or remain.
-fn walk_from(span: u32, body: &[u8], first: usize, skip: u16, out: &mut [u32]) -> usize
-    requires { (segmented_accepts span body.now ≡ true) × (first < stated_segments body.now) × (skip ≤ count_at body.now first) }
-    ensures { Walked (walk_of (segmented_names body.now) (rows_before body.now first + skip) (length out.old)) out.old out.new result }
-{
-    let n = directory::segments(body);
-    let end = out.len();
-    let mut i = first;
-    let mut from = skip;
-    let mut at = 0;
-    while i < n {
-        if end <= at {
-            return at;
-        }
-        at += walk_at(directory::entry(body, i), body, from, out, at);
-        from = 0;
-        i += 1;
-    }
-    at
+// A segmented body that is accepted over its span. `narrow` and `bytes` are what the types of the fields say.
+#[derive(Clone, Copy)]
+pub struct Segmented<'a> {
+    span: u32,
+    body: &'a [u8],
+    ghost narrow: { span < 2 ^ 32 },
+    ghost bytes: { Bytes body.now },
+    ghost accepted: { segmented_accepts span body.now ≡ true },
 }
 
-// The rows from ordinal k on, as many as fit or remain.
-pub fn walk(span: u32, body: &[u8], k: u16, out: &mut [u32]) -> usize
-    requires { segmented_accepts span body.now ≡ true }
-    ensures { Walked (walk_of (segmented_names body.now) k (length out.old)) out.old out.new result }
-{
-    if fields::read16(body, 0) <= k {
-        return 0;
+impl<'a> Segmented<'a> {
+    // Of a body that is known to be accepted.
+    pub fn new(span: u32, body: &'a [u8]) -> Segmented<'a>
+        requires { segmented_accepts span body.now ≡ true }
+        ensures { (result.span ≡ span) × (result.body.now ≡ body.now) }
+    {
+        Segmented { span, body }
     }
-    let n = directory::segments(body);
-    let found = directory::by_ordinal(body, n, k);
-    if found == 0 {
-        return 0;
+
+    // The body, if it is accepted.
+    pub fn check(span: u32, body: &'a [u8]) -> Option<Segmented<'a>>
+        ensures accepted { is_some result ≡ segmented_accepts span body.now }
+        ensures same { IfSome result (λ s. (s.span ≡ span) × (s.body.now ≡ body.now)) }
+    {
+        if check(span, body) {
+            Some(Segmented { span, body })
+        } else {
+            None
+        }
     }
-    let e = directory::entry(body, found - 1);
-    walk_from(span, body, found - 1, k - e.ordinal, out)
+
+    // Where p stands: in the last segment that starts at p or before, or behind it, where its part need not be read.
+    pub fn place(&self, p: u32) -> Place
+        ensures { result ≡ place_of (segmented_names self.now.body.now) p }
+    {
+        let n = directory::segments(self.body);
+        let Some(last) = directory::by_start(self.body, n, p).checked_sub(1) else {
+            return Place {
+                below: 0,
+                present: false,
+            };
+        };
+        let e = directory::entry(self.body, last);
+        if u32::from(e.span) <= p - e.start {
+            return Place {
+                below: u32::from(e.ordinal) + u32::from(e.count),
+                present: false,
+            };
+        }
+        place_in(e, self.body, p)
+    }
+
+    // The rank of p, or the number that stands for nothing.
+    fn rank(&self, p: u32) -> u32
+        ensures { result ≡ rank_or_none (place_of (segmented_names self.now.body.now) p) }
+    {
+        if self.span <= p {
+            u32::MAX
+        } else {
+            model::rank_or(self.place(p))
+        }
+    }
+
+    // The same of many positions.
+    #[tactic(auto, unfolding(model::specs::Answers::ranks_of))]
+    pub fn ranks(&self, positions: &[u32], out: &mut [u32])
+        requires { length positions.now ≤ length out.old }
+        ensures { out.new ≡ over (ranks_of (segmented_names self.now.body.now) positions.now) out.old }
+    {
+        model::answer_each(positions, out, |p| self.rank(p));
+    }
+
+    // The row of ordinal k: in the last segment that states at most k rows before it. There is one, as the first states none.
+    pub fn select(&self, k: u16) -> u32
+        requires { k < stated_count self.now.body.now }
+        ensures { result ≡ slice_index (segmented_names self.now.body.now) k }
+    {
+        let n = directory::segments(self.body);
+        let last = directory::by_ordinal(self.body, n, k) - 1;
+        select_in(directory::entry(self.body, last), self.body, k)
+    }
+
+    // The rows from row number skip of segment first on, segment after segment, as many as fit or remain.
+    fn walk_from(&self, first: usize, skip: u16, out: &mut [u32]) -> usize
+        requires { (first < stated_segments self.now.body.now) × (skip ≤ count_at self.now.body.now first) }
+        ensures { Walked (walk_of (segmented_names self.now.body.now) (rows_before self.now.body.now first + skip) (length out.old)) out.old out.new result }
+    {
+        let n = directory::segments(self.body);
+        let mut from = skip;
+        let mut at = 0;
+        for i in first..n {
+            if out.len() <= at {
+                return at;
+            }
+            at += walk_at(directory::entry(self.body, i), self.body, from, out, at);
+            from = 0;
+        }
+        at
+    }
+
+    // The rows from ordinal k on, as many as fit or remain.
+    pub fn walk(&self, k: u16, out: &mut [u32]) -> usize
+        ensures { Walked (walk_of (segmented_names self.now.body.now) k (length out.old)) out.old out.new result }
+    {
+        if fields::read16(self.body, 0) <= k {
+            return 0;
+        }
+        let n = directory::segments(self.body);
+        let first = directory::by_ordinal(self.body, n, k) - 1;
+        let e = directory::entry(self.body, first);
+        self.walk_from(first, k - e.ordinal, out)
+    }
 }

@@ -1,6 +1,6 @@
 -- The answers of the checks of a body with one local form.
 -- Assumes nothing.
-use Rattle.std.proofs.Common.{◌≡◌, ℕ, ◌+◌, ◌-◌, ◌<◌, ◌≤◌, Bool, true, false, eqb, leb, List, length, get_or, take, drop, sym, ap, ◌∙◌, ⊎_elim, arith, length-drop, le-ltb, le-leb}
+use Rattle.std.proofs.Common.{◌≡◌, ℕ, ◌+◌, ◌-◌, ◌<◌, ◌≤◌, Bool, true, false, eqb, leb, List, length, get_or, take, drop, sym, ap, ◌∙◌, ⊎_elim, arith, le-ltb, le-leb}
 use borrow.Author.Tests.{lt-leb}
 use Rattle.model.specs.Tests.{both, pick}
 use Rattle.model.specs.Lists.{has, place_of}
@@ -8,19 +8,15 @@ use Rattle.model.specs.declared.Place.{Place}
 use Rattle.model.proofs.Tests.{order, same_or_not, strictly, either, both_first, both_second, pick_true, pick_false}
 use Rattle.model.proofs.Taking.{tail_is}
 use Rattle.model.proofs.Counted.{both_pass}
-use Rattle.forms.specs.Forms.{local_accepts, local_names, local_sized}
+use Rattle.forms.specs.Forms.{local_accepts, local_names}
 use Rattle.forms.proofs.Tags.{Other, local_cases, other_ne}
-use Rattle.single.specs.Single.{header_of, view, bitmap_view, trimmed_missing_view, view_of, fields_ok, named_in, ends_ok, view_accepts, single_accepts, Readable}
+use Rattle.single.specs.Single.{header_of, view, bitmap_view, trimmed_missing_view, view_of, fields_ok, named_in, ends_ok, view_accepts, single_accepts}
 use Rattle.single.specs.declared.View.{View}
 
 -- a place that was read is present as the list has it
 pub present_is : {r : Place} (xs : List ℕ) (p : ℕ) → r ≡ place_of xs p → r.present ≡ has xs p
 unfolding place_of
 present_is xs p e = ap (λ (q : Place). q.present) e
-
--- the part of a body that a form is read from has the length that its readers want
-pub lent_sized : (v : View) (xs : List ℕ) → Readable v xs → local_sized v.form (length (take (length xs - v.offset) (drop v.offset xs))) v.span v.count ≡ true
-lent_sized v xs r = rw (tail_is v.offset xs, length-drop v.offset xs) r.sized
 
 -- ---- the answers of `view_ok`, test by test
 

@@ -100,6 +100,10 @@ module _ (v : View) (span : ℕ) (xs : List ℕ) (p : Parts v span xs) where
         local_walk_lem v.form (part_in v xs) v.span v.count p.local part_bytes k v.base room
         ∙ moved_walk v.base (omega (arith, p.inside)) named_rising k room
 
+-- the parts by the view that was read
+pub parts_read : (tag span : ℕ) (xs : List ℕ) {v : View} → v ≡ view_of tag span xs → single_accepts tag span xs ≡ true → Parts v span xs
+parts_read tag span xs q ok = rw q (single_parts tag span xs ok)
+
 -- the ranks of the local form by the view that was read
 pub single_ranks : (tag span : ℕ) (xs : List ℕ) {v : View} → v ≡ view_of tag span xs → single_accepts tag span xs ≡ true → Bytes xs → (ps : List ℕ)
     → ranks_in (local_place v.form (part_in v xs) v.span v.count) v.base v.span ps ≡ ranks_of (single_names tag span xs) ps

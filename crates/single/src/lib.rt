@@ -23,23 +23,23 @@ pub struct View {
 }
 
 // The bytes that a header has at least.
+#[tactic(auto, unfolding(crate::specs::Single::header_of, model::specs::Tests::pick))]
 pub fn header(tag: u8) -> usize
     ensures { (result ≡ header_of tag) × (result ≤ 8) }
 {
-    if tag == 8 {
-        return 8;
+    match tag {
+        4..=7 => 4,
+        8 => 8,
+        _ => 0,
     }
-    if tag < 4 {
-        return 0;
-    }
-    if tag < 8 { 4 } else { 0 }
 }
 
 // A count that no u16 holds is no count.
+#[tactic(auto, unfolding(crate::specs::Single::fit, model::specs::Tests::pick))]
 fn fit(n: usize) -> u16
     ensures { result ≡ fit n }
 {
-    if n <= 65535 { n as u16 } else { 0 }
+    u16::try_from(n).unwrap_or(0)
 }
 
 // A local form that starts at position 0 and takes the whole span.
@@ -47,16 +47,17 @@ fn plain(form: u8, span: u32, count: u16, offset: usize) -> View
     ensures { result ≡ view form false 0 span count offset }
 {
     View {
-        form: form,
+        form,
         trimmed: false,
         base: 0,
-        span: span,
-        count: count,
-        offset: offset,
+        span,
+        count,
+        offset,
     }
 }
 
 // A bitmap's header: trimmed where its flag is 1.
+#[tactic(auto, unfolding(crate::specs::Single::bitmap_view, model::specs::Tests::pick))]
 fn bitmap_view(span: u32, body: &[u8]) -> View
     requires { 4 ≤ length body.now }
     ensures { result ≡ bitmap_view span body.now }
@@ -73,11 +74,12 @@ fn bitmap_view(span: u32, body: &[u8]) -> View
         trimmed: true,
         base: fields::read32(body, 4),
         span: fields::read32(body, 8),
-        count: count,
+        count,
         offset: 12,
     }
 }
 
+#[tactic(auto, unfolding(crate::specs::Single::trimmed_missing_view))]
 fn trimmed_missing_view(body: &[u8]) -> View
     requires { 8 ≤ length body.now }
     ensures { result ≡ trimmed_missing_view body.now }
@@ -86,62 +88,42 @@ fn trimmed_missing_view(body: &[u8]) -> View
         form: 7,
         trimmed: true,
         base: fields::read32(body, 0),
-        span: fields::read16(body, 4) as u32,
+        span: u32::from(fields::read16(body, 4)),
         count: fields::read16(body, 6),
         offset: 8,
     }
 }
 
 // Where the body of a tag keeps its parts.
+#[tactic(auto, unfolding(crate::specs::Single::header_of, crate::specs::Single::view_of, model::specs::Tests::pick))]
 pub fn parse(tag: u8, span: u32, body: &[u8]) -> View
     requires { header_of tag ≤ length body.now }
     ensures { result ≡ view_of tag span body.now }
 {
-    if tag == 1 {
-        return plain(1, span, fit(span as usize), 0);
+    match tag {
+        1 => plain(1, span, fit(span as usize), 0),
+        2 => plain(2, span, fit(body.len() / 4), 0),
+        3 => plain(3, span, fit(body.len() / 2), 0),
+        4 | 5 | 7 => plain(tag, span, fields::read16(body, 0), 4),
+        6 => bitmap_view(span, body),
+        8 => trimmed_missing_view(body),
+        _ => plain(0, span, 0, 0),
     }
-    if tag == 2 {
-        return plain(2, span, fit(body.len() / 4), 0);
-    }
-    if tag == 3 {
-        return plain(3, span, fit(body.len() / 2), 0);
-    }
-    if tag == 4 {
-        return plain(4, span, fields::read16(body, 0), 4);
-    }
-    if tag == 5 {
-        return plain(5, span, fields::read16(body, 0), 4);
-    }
-    if tag == 6 {
-        return bitmap_view(span, body);
-    }
-    if tag == 7 {
-        return plain(7, span, fields::read16(body, 0), 4);
-    }
-    if tag == 8 {
-        return trimmed_missing_view(body);
-    }
-    plain(0, span, 0, 0)
 }
 
 // Whether the fields beside the count are right: the number of runs, a bitmap's flag and zero, the zero of a missing form.
+#[tactic(auto, unfolding(crate::specs::Single::header_of, crate::specs::Single::fields_ok, model::specs::Tests::pick, model::specs::Tests::both))]
 fn fields_ok(tag: u8, body: &[u8]) -> bool
     requires { header_of tag ≤ length body.now }
     ensures { result ≡ fields_ok tag body.now }
 {
-    if tag == 4 {
-        return fields::read16(body, 2) as usize == (body.len() - 4) / 6;
+    match tag {
+        4 => usize::from(fields::read16(body, 2)) == (body.len() - 4) / 6,
+        5 => usize::from(fields::read16(body, 2)) == (body.len() - 4) / 8,
+        6 => (body[2] <= 1) & (body[3] == 0),
+        7 => fields::read16(body, 2) == 0,
+        _ => true,
     }
-    if tag == 5 {
-        return fields::read16(body, 2) as usize == (body.len() - 4) / 8;
-    }
-    if tag == 6 {
-        return (body[2] <= 1) & (body[3] == 0);
-    }
-    if tag == 7 {
-        return fields::read16(body, 2) == 0;
-    }
-    true
 }
 
 // Whether both ends of an accepted local form are present.
@@ -149,46 +131,28 @@ fn ends(form: u8, part: &[u8], span: u32, count: u16) -> bool
     requires { local_accepts form part.now span count ≡ true }
     ensures { result ≡ both (has (local_names form part.now span count) 0) (has (local_names form part.now span count) (span - 1)) }
 {
-    if span == 0 {
-        return false;
-    }
-    let first = forms::place(form, part, span, count, 0).present;
-    let last = forms::place(form, part, span, count, span - 1).present;
-    first & last
+    let first = forms::place(form, part, span, count, 0);
+    let last = forms::place(form, part, span, count, span - 1);
+    first.present & last.present
 }
 
 // Whether the header is there, and the local form lies in the span and is accepted.
 fn view_ok(v: View, span: u32, body: &[u8]) -> bool
     ensures { result ≡ view_accepts v span body.now }
 {
-    let at = v.offset;
-    if body.len() < at {
+    if body.len() < v.offset || u64::from(span) < u64::from(v.base) + u64::from(v.span) {
         return false;
     }
-    if (span as u64) < v.base as u64 + v.span as u64 {
-        return false;
-    }
-    let part = &body[at..];
-    if !forms::check(v.form, part, v.span, v.count) {
-        return false;
-    }
-    if v.trimmed {
-        return ends(v.form, part, v.span, v.count);
-    }
-    true
+    let part = &body[v.offset..];
+    forms::check(v.form, part, v.span, v.count)
+        && (!v.trimmed || ends(v.form, part, v.span, v.count))
 }
 
 // Whether a body of one of the tags 1 to 8 is accepted. Any other tag has no local form, and is refused.
 pub fn check(tag: u8, span: u32, body: &[u8]) -> bool
     ensures { result ≡ single_accepts tag span body.now }
 {
-    if body.len() < header(tag) {
-        return false;
-    }
-    if !fields_ok(tag, body) {
-        return false;
-    }
-    view_ok(parse(tag, span, body), span, body)
+    header(tag) <= body.len() && fields_ok(tag, body) && view_ok(parse(tag, span, body), span, body)
 }
 
 // Where p stands among the rows of the local form.
@@ -196,14 +160,13 @@ pub fn place(v: View, body: &[u8], p: u32) -> Place
     requires { Readable v body.now }
     ensures { result ≡ view_place v body.now p }
 {
-    if p < v.base {
+    let Some(inside) = p.checked_sub(v.base) else {
         return Place {
             below: 0,
             present: false,
         };
-    }
-    let at = v.offset;
-    forms::place(v.form, &body[at..], v.span, v.count, p - v.base)
+    };
+    forms::place(v.form, &body[v.offset..], v.span, v.count, inside)
 }
 
 // Writes the rank of each position in an accepted body, or the number that stands for nothing. The header is read once.
@@ -212,8 +175,8 @@ pub fn ranks(tag: u8, span: u32, body: &[u8], positions: &[u32], out: &mut [u32]
     ensures { out.new ≡ over (ranks_of (single_names tag span body.now) positions.now) out.old }
 {
     let v = parse(tag, span, body);
-    let at = v.offset;
-    forms::ranks(v.form, &body[at..], v.span, v.count, v.base, positions, out);
+    let part = &body[v.offset..];
+    forms::ranks(v.form, part, v.span, v.count, v.base, positions, out);
 }
 
 // The row of ordinal k.
@@ -221,11 +184,7 @@ pub fn select(v: View, body: &[u8], k: u16) -> u32
     requires { (Readable v body.now) × (k < v.count) }
     ensures { result ≡ view_select v body.now k }
 {
-    let at = v.offset;
-    std::num::wrapping_add_u32(
-        v.base,
-        forms::select(v.form, &body[at..], v.span, v.count, k),
-    )
+    v.base.wrapping_add(forms::select(v.form, &body[v.offset..], v.span, v.count, k))
 }
 
 // The rows from an ordinal on, as many as fit or remain.
@@ -233,6 +192,6 @@ pub fn walk(v: View, body: &[u8], from: u16, out: &mut [u32]) -> usize
     requires { Readable v body.now }
     ensures { Walked (view_walk v body.now from (length out.old)) out.old out.new result }
 {
-    let at = v.offset;
-    forms::walk(v.form, &body[at..], v.span, v.count, from, v.base, out)
+    let part = &body[v.offset..];
+    forms::walk(v.form, part, v.span, v.count, from, v.base, out)
 }

@@ -1,3 +1,4 @@
 pub mod Joining
 pub mod RunByRun
 pub mod Positions
+pub mod Ones

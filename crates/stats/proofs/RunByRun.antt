@@ -1,7 +1,7 @@
 -- Runs one after the other: the run that starts at an index, found by a loop over either width, and their number.
 -- Assumes nothing.
 use mathlib.Core.Path.{◌≡◌, refl, sym, ap, ◌∙◌}
-use mathlib.Core.Bool.{Bool, true, false}
+use mathlib.Core.Bool.{true, false}
 use mathlib.Core.Logic.{⊎_elim}
 use mathlib.Core.List.{List, [], ◌∷◌}
 use Prim.Native.Nat.{ℕ, suc, ◌+◌, ◌-◌, ◌<◌, ◌≤◌}
@@ -12,7 +12,7 @@ use lib.ListN.{length, get_or, drop, length-drop, drop_of_length-le}
 use lib.Seq.{drop-drop}
 use Rattle.model.specs.Tests.{pick}
 use Rattle.model.specs.Lists.{Run, run, onto, runs_of}
-use Rattle.model.proofs.Tests.{either, pick_true, pick_false}
+use Rattle.model.proofs.Tests.{either, pick_true, pick_false, pick_most}
 use Rattle.model.proofs.Taking.{drop_step}
 use Rattle.model.proofs.Runs.{runs_cons}
 use Rattle.stats.specs.Rows.{stretch, run_end}
@@ -94,29 +94,36 @@ run_front x y ys =
     (λ e. rw e (omega (arith, rw e at (runs_cons x y ys))))
     (either (eqb y (suc x)))
 
--- what a loop has counted after i + 1 rows
+-- what a loop has counted of the rows before index i
 pub record Counting (rows : List ℕ) (runs i : ℕ) : Type 0 where
-  pub few : runs ≤ i + 1
-  pub within : i ≤ length rows - 1
-  pub whole : length (runs_of rows) + 1 ≡ runs + length (runs_of (drop i rows))
+  pub some : 1 ≤ i
+  pub few : runs ≤ i
+  pub within : i ≤ length rows
+  pub whole : length (runs_of rows) + 1 ≡ runs + length (runs_of (drop (i - 1) rows))
 
 module _ (rows : List ℕ) where
-  pub counting_start : Counting rows 1 0
-  counting_start = record { few = omega arith; within = omega arith; whole = omega arith }
+  pub counting_start : 1 ≤ length rows → Counting rows 1 1
+  counting_start h = record { some = omega arith; few = omega arith; within = h; whole = omega arith }
 
-  pub counting_next : (runs i : ℕ) → Counting rows runs i → i + 1 < length rows → {t : Bool} {k : ℕ} → t ≡ eqb (get_or rows (i + 1) 0) (suc (get_or rows i 0)) → (k ≡ pick t 0 1) × (k ≤ 1) → Counting rows (runs + k) (i + 1)
-  counting_next runs i c h {t} {k} e n =
-      let x = get_or rows i 0 in
-      let y = get_or rows (i + 1) 0 in
-      let f : k ≡ pick {A = ℕ} (eqb y (suc x)) 0 1 = rw e at n.0 in
-      let one = drop_step rows i 0 (omega arith) in
-      let two = drop_step rows (i + 1) 0 h in
-      let s : length (runs_of (drop i rows)) ≡ k + length (runs_of (drop (i + 1) rows)) = rw (one, two, f) (run_front x y (drop (i + 1 + 1) rows)) in
-      record { few = omega (arith, c.few, n.1); within = omega arith; whole = omega (arith, c.whole, s) }
+  pub counting_next : (runs i : ℕ) → Counting rows runs i → i < length rows → {k : ℕ} → k ≡ pick {A = ℕ} (eqb (get_or rows i 0) (suc (get_or rows (i - 1) 0))) 0 1 → Counting rows (runs + k) (i + 1)
+  counting_next runs i c h {k} f =
+      let x = get_or rows (i - 1) 0 in
+      let y = get_or rows i 0 in
+      let few = pick_most (eqb y (suc x)) 0 1 1 (omega arith) (omega arith) in
+      let w = c.some in
+      let next : i - 1 + 1 ≡ i = omega arith in
+      let here : i + 1 - 1 ≡ i = omega arith in
+      let one = rw next at (drop_step rows (i - 1) 0 (omega arith)) in
+      let two = drop_step rows i 0 h in
+      let s : length (runs_of (drop (i - 1) rows)) ≡ k + length (runs_of (drop i rows)) = rw (one, two, f) (run_front x y (drop (i + 1) rows)) in
+      record { some = omega arith; few = omega (arith, c.few, few); within = omega arith; whole = rw here (omega (arith, c.whole, s)) }
 
-  pub counting_end : (runs i : ℕ) → Counting rows runs i → 1 ≤ length rows → length rows ≤ i + 1 → runs ≡ length (runs_of rows)
+  pub counting_end : (runs i : ℕ) → Counting rows runs i → length rows ≤ i → runs ≡ length (runs_of rows)
   unfolding runs_of onto
-  counting_end runs i c some h =
+  counting_end runs i c h =
       let w = c.within in
-      let n : length (runs_of (drop i rows)) ≡ 1 = rw (drop_step rows i 0 (omega arith), drop_of_length-le rows h) refl in
+      let s = c.some in
+      let next : i - 1 + 1 ≡ i = omega arith in
+      let one = rw next at (drop_step rows (i - 1) 0 (omega arith)) in
+      let n : length (runs_of (drop (i - 1) rows)) ≡ 1 = rw (one, drop_of_length-le rows h) refl in
       omega (arith, c.whole, n)

@@ -1,6 +1,6 @@
 -- The run that starts at an index, and rows that planning can take.
 -- Assumes nothing.
-use Rattle.std.specs.Prelude.{List, [], ◌∷◌, ℕ, suc, ◌+◌, ◌≤◌, eqb, length, get_or, drop}
+use Rattle.std.specs.Prelude.{List, [], ◌∷◌, ℕ, suc, ◌+◌, ◌<◌, ◌≤◌, eqb, length, get_or, drop}
 use Rattle.model.specs.Tests.{pick}
 use Rattle.model.specs.Lists.{Rising}
 
@@ -17,3 +17,10 @@ run_end rows i = i + 1 + stretch (get_or rows i 0) (drop (i + 1) rows)
 pub record Covered (start : ℕ) (rows : List ℕ) : Type 0 where
   pub some : 1 ≤ length rows
   pub rising : Rising start (start + 4294967295) rows
+
+-- one or more rows in a span of at most 4,294,967,295, whatever their order
+pub record Within (start : ℕ) (rows : List ℕ) : Type 0 where
+  pub some : 1 ≤ length rows
+  pub few : length rows ≤ 4294967295
+  pub from : (i : ℕ) → i < length rows → start ≤ get_or rows i 0
+  pub below : (i : ℕ) → i < length rows → get_or rows i 0 < start + 4294967295

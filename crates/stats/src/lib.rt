@@ -8,7 +8,7 @@ ghost use Rattle.stats.specs.Statistics.{Neighbours, joined};
 
 mod rows;
 
-pub use rows::{ordinals_stats, position, rows_stats, run_end, run_end16};
+pub use rows::{position, rows_stats, run_end};
 
 // Statistics of some positions that rise: first and last, how many, and how many runs they make.
 #[derive(Clone, Copy)]
@@ -22,10 +22,11 @@ pub struct Stats {
 pub fn one_if(t: bool) -> u32
     ensures { (result ≡ pick t 1 0) × (result ≤ 1) }
 {
-    if t { 1 } else { 0 }
+    u32::from(t)
 }
 
 // The statistics of two neighbouring segments as one, without a look at rows.
+#[tactic(auto, unfolding(crate::specs::Statistics::joined))]
 pub fn join(a: Stats, b: Stats) -> Stats
     requires { Neighbours a b }
     ensures { result ≡ joined a b }

@@ -15,7 +15,8 @@ use Rattle.directory.specs.Directory.{stated_segments, entry_of}
 use Rattle.directory.specs.declared.Segment.{Segment}
 use Rattle.bodies.specs.Bodies.{accepts}
 use Rattle.rowset.specs.Calls.{filled_of, values_of, segment_answer}
-use Rattle.rowset.specs.declared.Filled.{Filled}
+use Rattle.std.specs.Prelude.{Result}
+use Rattle.model.specs.declared.refusal.Refusal.{Refusal}
 use Rattle.rowset.proofs.Asking.{answers}
 use Rattle.rowset.proofs.Same.{filled_same}
 use Rattle.tables.specs.Tables.{entries_of, segments_answer, segments_left, written_in}
@@ -23,7 +24,7 @@ use Rattle.tables.proofs.Filling.{entries_nine, entries_count, entries_none, by_
 
 module _ (tag span : ℕ) (xs : List ℕ) (old : List Segment) where
   -- two results that meet the contract are equal, the answer and the table
-  pub segments_same : (a b : Filled) (s t : List Segment) → filled_of a ≡ segments_answer tag span xs (length old) → filled_of b ≡ segments_answer tag span xs (length old)
+  pub segments_same : (a b : Result ℕ Refusal) (s t : List Segment) → filled_of a ≡ segments_answer tag span xs (length old) → filled_of b ≡ segments_answer tag span xs (length old)
       → s ≡ segments_left tag span xs old → t ≡ segments_left tag span xs old → (a ≡ b) × (s ≡ t)
   segments_same a b s t p q u v = (filled_same a b (p ∙ sym q), u ∙ sym v)
 

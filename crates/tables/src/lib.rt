@@ -2,66 +2,43 @@
 
 #![tactic(auto)]
 
-ghost use Rattle.std.specs.Prelude.{◌≡◌, ◌+◌, ◌*◌, ◌≤◌, length};
-ghost use Rattle.directory.specs.Directory.{entry_of};
+ghost use Rattle.std.specs.Prelude.{◌≡◌, length};
 ghost use Rattle.rowset.specs.Calls.{filled_of};
-ghost use Rattle.tables.specs.Tables.{written_in, segments_answer, segments_left};
+ghost use Rattle.tables.specs.Tables.{segments_answer, segments_left};
 
 use directory::Segment;
-use rowset::Filled;
-
-// ---- what branches, so that the walk over the table has one loop and calls alone
+use rowset::Refusal;
 
 // What `segments` answers, from the body and the room alone: nothing is stored.
-fn planned(tag: u8, span: u32, body: &[u8], room: usize) -> Filled
+#[tactic(auto, using(crate::proofs::Filling::entries_count, crate::proofs::Filling::entries_none, bodies::proofs::Laws::nine_room), unfolding(rowset::specs::Calls::filled_of, rowset::specs::Calls::asked, crate::specs::Tables::segments_answer, model::specs::Tests::pick))]
+fn planned(tag: u8, span: u32, body: &[u8], room: usize) -> Result<usize, Refusal>
     ensures { filled_of result ≡ segments_answer tag span body.now room }
 {
     if !bodies::check(tag, span, body) {
-        return Filled::Refused(8);
+        return Err(Refusal::Body);
     }
     if tag != 9 {
-        return Filled::Written(0);
+        return Ok(0);
     }
     let n = directory::segments(body);
     if room < n {
-        return Filled::Refused(7);
+        return Err(Refusal::Output);
     }
-    Filled::Written(n)
-}
-
-// How many records an answer says were written.
-fn count_of(a: Filled) -> usize
-    ensures { result ≡ written_in (filled_of a) }
-{
-    match a {
-        Filled::Written(n) => n,
-        Filled::Refused(_) => 0,
-    }
-}
-
-// Entry i of the directory.
-fn entry(body: &[u8], i: usize) -> Segment
-    requires { 4 + 16 * (i + 1) ≤ length body.now }
-    ensures { result ≡ entry_of body.now i }
-{
-    directory::entry(body, i)
+    Ok(n)
 }
 
 // ---- the call
 
-// The entries of the directory, in front of the table. Another tag than 9 has none.
-pub fn segments(tag: u8, span: u32, body: &[u8], table: &mut [Segment]) -> Filled
+// The entries of the directory, in front of the table, and how many these are. Another tag than 9 has none.
+pub fn segments(tag: u8, span: u32, body: &[u8], table: &mut [Segment]) -> Result<usize, Refusal>
     ensures result_value { filled_of result ≡ segments_answer tag span body.now (length table.old) }
     ensures table_after { table.new ≡ segments_left tag span body.now table.old }
 {
-    let answer = planned(tag, span, body, table.len());
-    let n = count_of(answer);
-    let mut i = 0;
-    while i < n {
-        table[i] = entry(body, i);
-        i += 1;
+    let n = planned(tag, span, body, table.len())?;
+    for i in 0..n {
+        table[i] = directory::entry(body, i);
     }
-    answer
+    Ok(n)
 }
 
 // ---- the call over a table by value
@@ -69,7 +46,7 @@ pub fn segments(tag: u8, span: u32, body: &[u8], table: &mut [Segment]) -> Fille
 // A table of two records, and the answer.
 #[derive(Clone, Copy)]
 pub struct Pair {
-    pub answer: Filled,
+    pub answer: Result<usize, Refusal>,
     pub table: [Segment; 2],
 }
 
@@ -78,10 +55,7 @@ pub fn segments_pair(tag: u8, span: u32, body: &[u8], table: [Segment; 2]) -> Pa
     ensures answer_value { filled_of result.answer ≡ segments_answer tag span body.now 2 }
     ensures table_value { result.table ≡ segments_left tag span body.now table }
 {
-    let mut lent = table;
-    let answer = segments(tag, span, body, &mut lent);
-    Pair {
-        answer: answer,
-        table: lent,
-    }
+    let mut table = table;
+    let answer = segments(tag, span, body, &mut table);
+    Pair { answer, table }
 }

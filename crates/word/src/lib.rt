@@ -11,14 +11,14 @@ pub fn ones_below(word: u64, place: u32) -> u32
     requires { place < 64 }
     ensures { (result ≡ length (bits_from place 0 word)) × (result ≤ place) }
 {
-    u64::count_ones((word << (63 - place)) << 1)
+    ((word << (63 - place)) << 1).count_ones()
 }
 
 // How many places are set.
 pub fn ones(word: u64) -> u32
     ensures { (result ≡ length (bits_of word)) × (result ≤ 64) }
 {
-    u64::count_ones(word)
+    word.count_ones()
 }
 
 // Whether `place` is set.
@@ -34,7 +34,7 @@ pub fn mask(low: u32, n: u32) -> u64
     requires { (1 ≤ n) × (low + n ≤ 64) }
     ensures { result ≡ num_from 0 (range low n) }
 {
-    (18446744073709551615 >> (64 - n)) << low
+    (u64::MAX >> (64 - n)) << low
 }
 
 // A half of a part of a word, in which the set place number `k` is wanted; its lowest digit is counted from `base`.
@@ -53,11 +53,7 @@ fn half_of(word: u64, width: u32, k: u32, base: u32) -> Half
     let half = width / 2;
     let low = ones_below(word, half);
     if k < low {
-        Half {
-            word: word,
-            k: k,
-            base: base,
-        }
+        Half { word, k, base }
     } else {
         Half {
             word: word >> half,
@@ -100,7 +96,7 @@ pub fn lowest(word: u64) -> Next
     ensures { (bits_of word ≡ result.place ∷ bits_of result.rest) × (result.place < 64) }
 {
     Next {
-        place: u64::trailing_zeros(word),
+        place: word.trailing_zeros(),
         rest: word & (word - 1),
     }
 }
@@ -111,10 +107,8 @@ pub fn skip(word: u64, n: u32) -> u64
     ensures { bits_of result ≡ drop n (bits_of word) }
 {
     let mut rest = word;
-    let mut left = n;
-    while 0 < left {
+    for _ in 0..n {
         rest = lowest(rest).rest;
-        left -= 1;
     }
     rest
 }

@@ -1,40 +1,47 @@
-use Rattle.std.proofs.Common.{◌≡◌, sym, ap, ◌∙◌, length, ℕ, List, arith, slice_set}
+-- `tables::segments` meets its contract: the number of entries says how far the table is filled, and a refusal leaves it.
+use Rattle.std.proofs.Common.{◌≡◌, sym, ap, ◌∙◌, length, ℕ, List, arith, Ok, Err}
+use Rattle.model.specs.declared.refusal.Refusal.{Refusal}
 use Rattle.directory.specs.declared.Segment.{Segment}
 use Rattle.rowset.specs.Calls.{filled_of}
-use Rattle.rowset.specs.declared.Filled.{Filled}
-use Rattle.tables.specs.Tables.{written_in, segments_answer}
-use Rattle.tables.proofs.Filling.{Counted, counted_is, fill_to, fill_none, fill_next}
+use Rattle.tables.specs.Tables.{written_in, segments_answer, segments_left}
+use Rattle.tables.proofs.Filling.{Counted, counted_is, fill_none, fill_next}
 use Rattle.tables.proofs.segments.Goals as goal
 
--- what the answer's count means
-counted : (tag span n : ℕ) (xs : List ℕ) (old : List Segment) (a : Filled) → n ≡ written_in (filled_of a) → filled_of a ≡ segments_answer tag span xs (length old) → Counted tag span xs old n
-counted tag span n xs old a n-is answer-is = counted_is tag span xs old (n-is ∙ ap written_in answer-is)
+-- what an answer means for the table
+counted : (tag span n : ℕ) (xs : List ℕ) (old : List Segment) → filled_of (Ok n) ≡ segments_answer tag span xs (length old) → Counted tag span xs old n
+unfolding filled_of written_in
+counted tag span n xs old e = counted_is tag span xs old (ap written_in e)
+
+kept : (tag span : ℕ) (r : Refusal) (xs : List ℕ) (old : List Segment) → filled_of (Err r) ≡ segments_answer tag span xs (length old) → old ≡ segments_left tag span xs old
+unfolding filled_of written_in
+kept tag span r xs old e = sym (fill_none xs old) ∙ (counted_is tag span xs old (ap written_in e)).left
+
+pub returns-in_err-n-clause-table_after : goal.returns-in_err-n-clause-table_after
+returns-in_err-n-clause-table_after c = kept _ _ _ c.args.body.now c.args.table.now c.in_err-n.ensures
 
 pub loop-i-init : goal.loop-i-init
-loop-i-init c = (sym (fill_none _ _), omega arith)
+loop-i-init c = sym (fill_none _ _)
 
 pub entry-requires : goal.entry-requires
-entry-requires c = ((counted _ _ _ c.args.body.now c.args.table.now c.planned-answer.result c.count_of-n.ensures c.planned-answer.ensures).inside c.loop-i.i c.loop-i-test.true).0
+entry-requires c = ((counted _ _ _ c.args.body.now c.args.table.now c.in_ok-n.ensures).inside c.loop-i.i c.loop-i-test.true).0
 
 pub offset_bounds-table-i : goal.offset_bounds-table-i
 offset_bounds-table-i c =
-    let inside = (counted _ _ _ c.args.body.now c.args.table.now c.planned-answer.result c.count_of-n.ensures c.planned-answer.ensures).inside c.loop-i.i c.loop-i-test.true in
+    let inside = (counted _ _ _ c.args.body.now c.args.table.now c.in_ok-n.ensures).inside c.loop-i.i c.loop-i-test.true in
     omega arith
 
 pub bounds-table-i : goal.bounds-table-i
 bounds-table-i c =
-    let inside = (counted _ _ _ c.args.body.now c.args.table.now c.planned-answer.result c.count_of-n.ensures c.planned-answer.ensures).inside c.loop-i.i c.loop-i-test.true in
+    let inside = (counted _ _ _ c.args.body.now c.args.table.now c.in_ok-n.ensures).inside c.loop-i.i c.loop-i-test.true in
     omega arith
 
 pub loop-i-preserved : goal.loop-i-preserved
-loop-i-preserved c = (
-  ap (λ (t : List Segment). slice_set t c.loop-i.i c.entry.result) c.loop-i.invariant.0
-      ∙ ap (λ (e : Segment). slice_set (fill_to c.args.body.now c.loop-i.i c.args.table.now) c.loop-i.i e) c.entry.ensures
-      ∙ fill_next c.args.body.now c.loop-i.i c.args.table.now,
-  omega arith,
-)
+loop-i-preserved c =
+    let next = fill_next c.args.body.now c.loop-i.i c.args.table.now in
+    cc c.entry.ensures
 
 pub returns-clause-table_after : goal.returns-clause-table_after
 returns-clause-table_after c =
-    let e : c.loop-i.i ≡ c.count_of-n.result = omega arith in
-    c.loop-i.invariant.0 ∙ ap (λ (n : ℕ). fill_to c.args.body.now n c.args.table.now) e ∙ (counted _ _ _ c.args.body.now c.args.table.now c.planned-answer.result c.count_of-n.ensures c.planned-answer.ensures).left
+    let left = (counted _ _ _ c.args.body.now c.args.table.now c.in_ok-n.ensures).left in
+    let e : c.loop-i.i ≡ c.in_ok-n.n = omega arith in
+    cc

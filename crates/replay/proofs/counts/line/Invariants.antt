@@ -1,9 +1,0 @@
--- `replay::counts::line` is safe and ends.
-use Rattle.std.proofs.Common.{◌-◌, ◌≤◌}
-use Rattle.replay.proofs.counts.line.Given as goal
-
-abbrev pub invariant-loop-i : goal.invariant-loop-i
-invariant-loop-i l = l.from ≤ l.i
-
-abbrev pub decreases-loop-i : goal.decreases-loop-i
-decreases-loop-i l = l.to - l.i

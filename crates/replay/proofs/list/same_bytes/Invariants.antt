@@ -1,9 +1,0 @@
--- `replay::list::same_bytes` is safe and ends.
-use Rattle.std.proofs.Common.{◌-◌, ◌≤◌}
-use Rattle.replay.proofs.list.same_bytes.Given as goal
-
-abbrev pub invariant-loop-i : goal.invariant-loop-i
-invariant-loop-i l = l.i ≤ l.n
-
-abbrev pub decreases-loop-i : goal.decreases-loop-i
-decreases-loop-i l = l.n - l.i
