@@ -14,13 +14,13 @@ use model::Place;
 
 // ---- sizes
 
-fn words_of(span: u32) -> usize
+pub fn words_of(span: u32) -> usize
     ensures { result ≡ words_of span }
 {
     (span as usize).div_ceil(64)
 }
 
-fn groups_of(span: u32) -> usize
+pub fn groups_of(span: u32) -> usize
     ensures { result ≡ groups_of span }
 {
     words_of(span).div_ceil(4)

@@ -6,10 +6,12 @@ ghost use Rattle.std.specs.Prelude.{◌≡◌, ◌^◌, ◌<◌, ◌≤◌, true
 ghost use Rattle.fields.specs.Le.{Bytes};
 ghost use Rattle.model.specs.Lists.{place_of, walk_of};
 ghost use Rattle.model.specs.Answers.{over, ranks_of, Walked};
+ghost use Rattle.single.specs.Single.{view_of};
 ghost use Rattle.bodies.specs.Bodies.{accepts, names};
 
 use model::Place;
 use segmented::Segmented;
+use single::Single;
 
 pub fn check(tag: u8, span: u32, body: &[u8]) -> bool
     ensures { result ≡ accepts tag span body.now }
@@ -45,13 +47,22 @@ pub fn accept<'a>(tag: u8, span: u32, body: &'a [u8]) -> Option<Accepted<'a>>
 }
 
 impl<'a> Accepted<'a> {
+    // The one local form of a body of another tag than 9.
+    fn single(&self) -> Single
+        requires { self.now.tag ≡ 9 → ⊥ }
+        ensures view { result.view ≡ view_of self.now.tag self.now.span self.now.body.now }
+        ensures body { result.body.now ≡ self.now.body.now }
+    {
+        Single::new(single::parse(self.tag, self.span, self.body), self.body)
+    }
+
     pub fn count(&self) -> u16
         ensures { result ≡ length (names self.now.tag self.now.span self.now.body.now) }
     {
         if self.tag == 9 {
             fields::read16(self.body, 0)
         } else {
-            single::parse(self.tag, self.span, self.body).count
+            self.single().count()
         }
     }
 
@@ -61,7 +72,7 @@ impl<'a> Accepted<'a> {
         if self.tag == 9 {
             Segmented::new(self.span, self.body).place(p)
         } else {
-            single::place(single::parse(self.tag, self.span, self.body), self.body, p)
+            self.single().place(p)
         }
     }
 
@@ -84,7 +95,7 @@ impl<'a> Accepted<'a> {
         if self.tag == 9 {
             Segmented::new(self.span, self.body).select(k)
         } else {
-            single::select(single::parse(self.tag, self.span, self.body), self.body, k)
+            self.single().select(k)
         }
     }
 
@@ -94,12 +105,7 @@ impl<'a> Accepted<'a> {
         if self.tag == 9 {
             Segmented::new(self.span, self.body).walk(k, out)
         } else {
-            single::walk(
-                single::parse(self.tag, self.span, self.body),
-                self.body,
-                k,
-                out,
-            )
+            self.single().walk(k, out)
         }
     }
 }

@@ -20,56 +20,12 @@ pub struct Segment {
     pub tag: u8,
 }
 
-// Entry i.
-pub fn entry(body: &[u8], i: usize) -> Segment
-    requires { 4 + 16 * (i + 1) ≤ length body.now }
-    ensures { result ≡ entry_of body.now i }
-{
-    let at = i * 16;
-    Segment {
-        start: fields::read32(body, 4 + at),
-        span: fields::read16(body, 8 + at),
-        count: fields::read16(body, 10 + at),
-        ordinal: fields::read16(body, 12 + at),
-        offset: fields::read16(body, 14 + at),
-        length: fields::read16(body, 16 + at),
-        tag: body[18 + at],
-    }
-}
-
-// The byte called zero of entry i.
-#[tactic(auto, using(crate::proofs::Checking::byte_is))]
-fn nought(body: &[u8], i: usize) -> u8
-    requires { 4 + 16 * (i + 1) ≤ length body.now }
-    ensures { result ≡ zero_at body.now i }
-{
-    body[19 + i * 16]
-}
-
 // The stated number of segments.
 pub fn segments(body: &[u8]) -> usize
     requires { 4 ≤ length body.now }
     ensures { (result ≡ stated_segments body.now) × (result < 65536) }
 {
     usize::from(fields::read16(body, 2))
-}
-
-// How many of n segments start at p or before.
-#[tactic(auto, unfolding(fields::specs::Le::width_of))]
-pub fn by_start(body: &[u8], n: usize, p: u32) -> usize
-    requires { 4 + 16 * n ≤ length body.now }
-    ensures { result ≡ starts_to body.now n p }
-{
-    search::upper(body, 4, 16, n, p, true, false)
-}
-
-// How many of n segments state at most k rows before them.
-#[tactic(auto, unfolding(fields::specs::Le::width_of))]
-pub fn by_ordinal(body: &[u8], n: usize, k: u16) -> usize
-    requires { 4 + 16 * n ≤ length body.now }
-    ensures { result ≡ ordinals_to body.now n k }
-{
-    search::upper(body, 12, 16, n, u32::from(k), false, false)
 }
 
 // Whether a tag is a local form's.
@@ -98,24 +54,84 @@ fn fits(e: Segment, nought: u8, free: u64, rows: u64, at: usize, span: u32) -> b
     inside & formed & stated
 }
 
-// Whether n segments fit, have the stated rows together, and end where the body ends. No early exit: the sums never pass 2^33.
-fn stand(body: &[u8], n: usize, span: u32) -> bool
-    requires { (4 + 16 * n ≤ length body.now) × (n < 65536) }
-    ensures { result ≡ segments_fit body.now span n }
-{
-    let count = u64::from(fields::read16(body, 0));
-    let mut ok = true;
-    let mut free: u64 = 0;
-    let mut rows: u64 = 0;
-    let mut at = 4 + 16 * n;
-    for i in 0..n {
-        let e = entry(body, i);
-        ok &= fits(e, nought(body, i), free, rows, at, span);
-        free = u64::from(e.start) + u64::from(e.span);
-        rows += u64::from(e.count);
-        at += usize::from(e.length);
+/// The entries of n segments, which lie in front of a body behind its first four bytes.
+#[derive(Clone, Copy)]
+pub struct Directory<'a> {
+    body: &'a [u8],
+    n: usize,
+    ghost sized: { 4 + 16 * n ≤ length body.now },
+}
+
+impl<'a> Directory<'a> {
+    pub fn new(body: &'a [u8], n: usize) -> Directory<'a>
+        requires { 4 + 16 * n ≤ length body.now }
+        ensures body { result.body.now ≡ body.now }
+        ensures n { result.n ≡ n }
+    {
+        Directory { body, n }
     }
-    ok & (rows == count) & (at == body.len())
+
+    // Entry i.
+    pub fn entry(&self, i: usize) -> Segment
+        requires { i < self.now.n }
+        ensures { result ≡ entry_of self.now.body.now i }
+    {
+        let at = i * 16;
+        Segment {
+            start: fields::read32(self.body, 4 + at),
+            span: fields::read16(self.body, 8 + at),
+            count: fields::read16(self.body, 10 + at),
+            ordinal: fields::read16(self.body, 12 + at),
+            offset: fields::read16(self.body, 14 + at),
+            length: fields::read16(self.body, 16 + at),
+            tag: self.body[18 + at],
+        }
+    }
+
+    // The byte called zero of entry i.
+    #[tactic(auto, using(crate::proofs::Checking::byte_is))]
+    fn nought(&self, i: usize) -> u8
+        requires { i < self.now.n }
+        ensures { result ≡ zero_at self.now.body.now i }
+    {
+        self.body[19 + i * 16]
+    }
+
+    // How many of the segments start at p or before.
+    #[tactic(auto, unfolding(fields::specs::Le::width_of))]
+    pub fn by_start(&self, p: u32) -> usize
+        ensures { result ≡ starts_to self.now.body.now self.now.n p }
+    {
+        search::upper(self.body, 4, 16, self.n, p, true, false)
+    }
+
+    // How many of the segments state at most k rows before them.
+    #[tactic(auto, unfolding(fields::specs::Le::width_of))]
+    pub fn by_ordinal(&self, k: u16) -> usize
+        ensures { result ≡ ordinals_to self.now.body.now self.now.n k }
+    {
+        search::upper(self.body, 12, 16, self.n, u32::from(k), false, false)
+    }
+
+    // Whether the segments fit, have the stated rows together, and end where the body ends. No early exit: the sums never pass 2^33.
+    fn stand(&self, span: u32) -> bool
+        requires { self.now.n < 65536 }
+        ensures { result ≡ segments_fit self.now.body.now span self.now.n }
+    {
+        let count = u64::from(fields::read16(self.body, 0));
+        let mut ok = true;
+        let mut free: u64 = 0;
+        let mut rows: u64 = 0;
+        let mut at = 4 + 16 * self.n;
+        for i in 0..self.n {
+            let e = self.entry(i);
+            ok &= fits(e, self.nought(i), free, rows, at, span);
+            free = u64::from(e.start) + u64::from(e.span);
+            rows += u64::from(e.count);
+            at += usize::from(e.length);
+        }
+        ok & (rows == count) & (at == self.body.len())
+    }
 }
 
 // Whether the directory is accepted, for any bytes and any span.
@@ -128,5 +144,5 @@ pub fn check(body: &[u8], span: u32) -> bool
     let n = segments(body);
     1 <= n
         && 4 + 16 * n <= body.len()
-        && counted(span, fields::read16(body, 0)) & stand(body, n, span)
+        && counted(span, fields::read16(body, 0)) & Directory::new(body, n).stand(span)
 }

@@ -8,7 +8,6 @@ ghost use Rattle.fields.specs.Le.{put, width_of};
 ghost use Rattle.model.specs.Lists.{range, run};
 ghost use Rattle.lists.specs.Lists.{list_layout};
 ghost use Rattle.runs.specs.Runs.{runs_bytes};
-ghost use Rattle.bitmap.specs.Body.{words_of};
 ghost use Rattle.emit.specs.Written.{Written};
 ghost use Rattle.emit.specs.Words.{with_digit, with_run, counted_at};
 
@@ -100,19 +99,6 @@ pub fn in_word(position: u32, k: usize) -> bool
     ensures { result ≡ eqb (position / 64) k }
 {
     (position / 64) as usize == k
-}
-
-pub fn words_of(span: u32) -> usize
-    ensures { result ≡ words_of span }
-{
-    (span as usize).div_ceil(64)
-}
-
-pub fn groups_of(words: usize) -> usize
-    requires { words ≤ 67108864 }
-    ensures { result ≡ (words + 3) / 4 }
-{
-    words.div_ceil(4)
 }
 
 // Each fourth word begins a group: the rows before it go in front of the words.

@@ -12,9 +12,10 @@ ghost use Rattle.bitmap.specs.Body.{bitmap_length, bitmap_layout};
 ghost use Rattle.emit.specs.Written.{Written};
 ghost use Rattle.emit.specs.Words.{Cut, Onward, Sight, Spaced, Unbroken, Worded};
 
+use bitmap::{groups_of, words_of};
 use emit::{
-    Outlook, Passed, Word, groups_of, in_word, list_run, put_before, put_field, run_entry,
-    with_digit, with_run, words_of,
+    Outlook, Passed, Word, in_word, list_run, put_before, put_field, run_entry, with_digit,
+    with_run,
 };
 use model::{Row, row_at};
 
@@ -243,11 +244,10 @@ pub fn bitmap_rows<R: Row>(out: &mut [u8], at: usize, rows: &[R], base: u64, spa
     requires { (Rising base (base + span) (map R.number rows.now)) × (at + bitmap_length span ≤ length out.old) }
     ensures { Written (bitmap_layout span (positions_of base (map R.number rows.now))) at out.old out.new result }
 {
-    let words = words_of(span);
-    let mut p = at + 2 * groups_of(words);
+    let mut p = at + 2 * groups_of(span);
     let mut i = 0;
     let mut ahead = Outlook { start: 0, stop: 0 };
-    for k in 0..words {
+    for k in 0..words_of(span) {
         let passed = word_rows(rows, i, ahead, base, k);
         let word = passed.word;
         put_before(out, at, k, i);

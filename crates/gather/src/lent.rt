@@ -86,7 +86,7 @@ pub fn add_page(g: &mut Gatherer, table: &mut [u16], rows: &[u64]) -> Result<(),
     ensures record_after { g.new ≡ page_record g.old (length table.old) rows.now }
     ensures table_after { table.new ≡ page_table g.old table.old rows.now }
 {
-    if goes_in(*g, table.len(), rows) {
+    if goes_in(copied(*g), table.len(), rows) {
         *g = put_page(*g, table, rows);
         return Ok(());
     }

@@ -8,7 +8,7 @@ ghost use Rattle.bodies.specs.Bodies.{accepts};
 ghost use Rattle.rowset.specs.Calls.{checked_of, ranked_of, selected_of, filled_of, entry_answer, validate_of, rank_answer, select_answer, row_of, ranks_answer, ranks_left, walk_answer, walk_left, segment_answer};
 
 use bodies::Accepted;
-use directory::Segment;
+use directory::{Directory, Segment};
 use model::Place;
 pub use model::Refusal;
 
@@ -94,8 +94,12 @@ pub fn segment(tag: u8, span: u32, body: &[u8], i: usize) -> Result<Option<Segme
     ensures { entry_answer result ≡ segment_answer tag span body.now i }
 {
     accepted(tag, span, body)?;
-    if tag != 9 || directory::segments(body) <= i {
+    if tag != 9 {
         return Ok(None);
     }
-    Ok(Some(directory::entry(body, i)))
+    let n = directory::segments(body);
+    if n <= i {
+        return Ok(None);
+    }
+    Ok(Some(Directory::new(body, n).entry(i)))
 }

@@ -1,6 +1,6 @@
 -- What the code has in hand of a segment: its entry, and the part of the body that the entry names.
 -- Assumes nothing.
-use Rattle.std.proofs.Common.{◌≡◌, ℕ, ◌+◌, ◌-◌, ◌*◌, ◌<◌, ◌≤◌, Bool, true, false, List, length, sym, ◌∙◌, arith}
+use Rattle.std.proofs.Common.{◌≡◌, ℕ, ◌+◌, ◌-◌, ◌<◌, ◌≤◌, Bool, true, false, List, length, sym, ◌∙◌, arith}
 use Rattle.model.specs.Tests.{all}
 use Rattle.model.proofs.Tests.{both_first}
 use Rattle.model.proofs.Counted.{both_pass}
@@ -18,9 +18,6 @@ cut_part xs i q =
     rw (q, s)
 
 module _ (xs : List ℕ) (span i : ℕ) (ok : directory_accepts xs span ≡ true) (h : i < stated_segments xs) where
-  pub entry_room : 4 + 16 * (i + 1) ≤ length xs
-  entry_room = omega (arith, (accepts_directory xs span ok).room)
-
   pub part_inside : {e : Segment} → e ≡ entry_of xs i → e.offset + e.length ≤ length xs
   unfolding entry_of
   part_inside q = rw q (payload_inside (accepts_directory xs span ok) i h)

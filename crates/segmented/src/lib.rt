@@ -10,25 +10,16 @@ ghost use Rattle.model.specs.Answers.{over, rank_or_none, ranks_of, Walked};
 ghost use Rattle.directory.specs.Directory.{stated_count, stated_segments, count_at, rows_before, directory_accepts};
 ghost use Rattle.segmented.specs.Segmented.{part_accepts, segmented_accepts, segmented_names, part_by, PartReadable, place_in, select_in, walk_in, WalkedAt};
 
-use directory::Segment;
+use directory::{Directory, Segment};
 use model::Place;
 
 // The part of the body that an entry names.
-fn part(e: Segment, body: &[u8]) -> &[u8]
+fn cut(e: Segment, body: &[u8]) -> &[u8]
     requires { e.offset + e.length ≤ length body.now }
     ensures { result.now ≡ part_by e body.now }
 {
     let at = usize::from(e.offset);
     &body[at..at + usize::from(e.length)]
-}
-
-// Whether the part of segment i is accepted.
-fn part_ok(body: &[u8], span: u32, i: usize) -> bool
-    requires { (directory_accepts body.now span ≡ true) × (i < stated_segments body.now) }
-    ensures { result ≡ part_accepts body.now i }
-{
-    let e = directory::entry(body, i);
-    forms::check(e.tag, part(e, body), u32::from(e.span), e.count)
 }
 
 // Whether every part is accepted.
@@ -37,9 +28,11 @@ fn parts_ok(body: &[u8], span: u32) -> bool
     ensures { result ≡ all (part_accepts body.now) (stated_segments body.now) }
 {
     let n = directory::segments(body);
+    let directory = Directory::new(body, n);
     let mut ok = true;
     for i in 0..n {
-        ok &= part_ok(body, span, i);
+        let e = directory.entry(i);
+        ok &= forms::check(e.tag, cut(e, body), u32::from(e.span), e.count);
     }
     ok
 }
@@ -51,57 +44,69 @@ pub fn check(span: u32, body: &[u8]) -> bool
     directory::check(body, span) && parts_ok(body, span)
 }
 
-// Where p stands in the part of its segment, counted over all segments.
-#[tactic(auto, unfolding(crate::specs::Segmented::place_in, crate::specs::Segmented::counted_from))]
-fn place_in(e: Segment, body: &[u8], p: u32) -> Place
-    requires { PartReadable e body.now × (e.start ≤ p) }
-    ensures { result ≡ place_in e body.now p }
-{
-    let local = forms::place(
-        e.tag,
-        part(e, body),
-        u32::from(e.span),
-        e.count,
-        p - e.start,
-    );
-    Place {
-        below: u32::from(e.ordinal).wrapping_add(local.below),
-        present: local.present,
+// A segment by its entry, whose part lies in the body and has the length that its form's readers want.
+#[derive(Clone, Copy)]
+struct Part<'a> {
+    e: Segment,
+    body: &'a [u8],
+    ghost readable: { PartReadable e body.now },
+}
+
+impl<'a> Part<'a> {
+    // Where p stands in the part, counted over all segments.
+    #[tactic(auto, unfolding(crate::specs::Segmented::place_in, crate::specs::Segmented::counted_from))]
+    fn place(&self, p: u32) -> Place
+        requires { self.now.e.start ≤ p }
+        ensures { result ≡ place_in self.now.e self.now.body.now p }
+    {
+        let e = self.e;
+        let local = forms::place(
+            e.tag,
+            cut(e, self.body),
+            u32::from(e.span),
+            e.count,
+            p - e.start,
+        );
+        Place {
+            below: u32::from(e.ordinal).wrapping_add(local.below),
+            present: local.present,
+        }
     }
-}
 
-// The row of ordinal k, which the segment holds.
-#[tactic(auto, unfolding(crate::specs::Segmented::select_in))]
-fn select_in(e: Segment, body: &[u8], k: u16) -> u32
-    requires { PartReadable e body.now × (e.ordinal ≤ k) × (k < e.ordinal + e.count) }
-    ensures { result ≡ select_in e body.now k }
-{
-    let local = forms::select(
-        e.tag,
-        part(e, body),
-        u32::from(e.span),
-        e.count,
-        k - e.ordinal,
-    );
-    e.start.wrapping_add(local)
-}
+    // The row of ordinal k, which the segment holds.
+    #[tactic(auto, unfolding(crate::specs::Segmented::select_in))]
+    fn select(&self, k: u16) -> u32
+        requires { (self.now.e.ordinal ≤ k) × (k < self.now.e.ordinal + self.now.e.count) }
+        ensures { result ≡ select_in self.now.e self.now.body.now k }
+    {
+        let e = self.e;
+        let local = forms::select(
+            e.tag,
+            cut(e, self.body),
+            u32::from(e.span),
+            e.count,
+            k - e.ordinal,
+        );
+        e.start.wrapping_add(local)
+    }
 
-// The rows of one segment from its row number skip on, as many as fit or remain.
-#[tactic(auto, unfolding(crate::specs::Segmented::walk_in))]
-fn walk_in(e: Segment, body: &[u8], skip: u16, out: &mut [u32]) -> usize
-    requires { PartReadable e body.now }
-    ensures { Walked (walk_in e body.now skip (length out.old)) out.old out.new result }
-{
-    let own = part(e, body);
-    forms::walk(e.tag, own, u32::from(e.span), e.count, skip, e.start, out)
-}
+    // The rows from row number skip on, as many as fit or remain.
+    #[tactic(auto, unfolding(crate::specs::Segmented::walk_in))]
+    fn walk(&self, skip: u16, out: &mut [u32]) -> usize
+        ensures { Walked (walk_in self.now.e self.now.body.now skip (length out.old)) out.old out.new result }
+    {
+        let e = self.e;
+        let own = cut(e, self.body);
+        forms::walk(e.tag, own, u32::from(e.span), e.count, skip, e.start, out)
+    }
 
-// The same behind the first at of out.
-fn walk_at(e: Segment, body: &[u8], skip: u16, out: &mut [u32], at: usize) -> usize
-    requires { PartReadable e body.now × (at ≤ length out.old) }
-    ensures { WalkedAt (walk_in e body.now skip (length out.old - at)) at out.old out.new result }
-{
-    walk_in(e, body, skip, &mut out[at..])
+    // The same behind the first at of out.
+    fn walk_at(&self, skip: u16, out: &mut [u32], at: usize) -> usize
+        requires { at ≤ length out.old }
+        ensures { WalkedAt (walk_in self.now.e self.now.body.now skip (length out.old - at)) at out.old out.new result }
+    {
+        self.walk(skip, &mut out[at..])
+    }
 }
 
 // A segmented body that is accepted over its span. `narrow` and `bytes` are what the types of the fields say.
@@ -135,25 +140,34 @@ impl<'a> Segmented<'a> {
         }
     }
 
+    // The directory: in an accepted body there is room for it.
+    fn directory(&self) -> Directory
+        ensures body { result.body.now ≡ self.now.body.now }
+        ensures n { result.n ≡ stated_segments self.now.body.now }
+    {
+        Directory::new(self.body, directory::segments(self.body))
+    }
+
     // Where p stands: in the last segment that starts at p or before, or behind it, where its part need not be read.
     pub fn place(&self, p: u32) -> Place
         ensures { result ≡ place_of (segmented_names self.now.body.now) p }
     {
-        let n = directory::segments(self.body);
-        let Some(last) = directory::by_start(self.body, n, p).checked_sub(1) else {
+        let directory = self.directory();
+        let Some(last) = directory.by_start(p).checked_sub(1) else {
             return Place {
                 below: 0,
                 present: false,
             };
         };
-        let e = directory::entry(self.body, last);
+        let e = directory.entry(last);
         if u32::from(e.span) <= p - e.start {
             return Place {
                 below: u32::from(e.ordinal) + u32::from(e.count),
                 present: false,
             };
         }
-        place_in(e, self.body, p)
+        let part = Part { e, body: self.body };
+        part.place(p)
     }
 
     // The rank of p, or the number that stands for nothing.
@@ -181,9 +195,13 @@ impl<'a> Segmented<'a> {
         requires { k < stated_count self.now.body.now }
         ensures { result ≡ slice_index (segmented_names self.now.body.now) k }
     {
-        let n = directory::segments(self.body);
-        let last = directory::by_ordinal(self.body, n, k) - 1;
-        select_in(directory::entry(self.body, last), self.body, k)
+        let directory = self.directory();
+        let last = directory.by_ordinal(k) - 1;
+        let part = Part {
+            e: directory.entry(last),
+            body: self.body,
+        };
+        part.select(k)
     }
 
     // The rows from row number skip of segment first on, segment after segment, as many as fit or remain.
@@ -191,6 +209,7 @@ impl<'a> Segmented<'a> {
         requires { (first < stated_segments self.now.body.now) × (skip ≤ count_at self.now.body.now first) }
         ensures { Walked (walk_of (segmented_names self.now.body.now) (rows_before self.now.body.now first + skip) (length out.old)) out.old out.new result }
     {
+        let directory = self.directory();
         let n = directory::segments(self.body);
         let mut from = skip;
         let mut at = 0;
@@ -198,7 +217,11 @@ impl<'a> Segmented<'a> {
             if out.len() <= at {
                 return at;
             }
-            at += walk_at(directory::entry(self.body, i), self.body, from, out, at);
+            let part = Part {
+                e: directory.entry(i),
+                body: self.body,
+            };
+            at += part.walk_at(from, out, at);
             from = 0;
         }
         at
@@ -211,9 +234,9 @@ impl<'a> Segmented<'a> {
         if fields::read16(self.body, 0) <= k {
             return 0;
         }
-        let n = directory::segments(self.body);
-        let first = directory::by_ordinal(self.body, n, k) - 1;
-        let e = directory::entry(self.body, first);
+        let directory = self.directory();
+        let first = directory.by_ordinal(k) - 1;
+        let e = directory.entry(first);
         self.walk_from(first, k - e.ordinal, out)
     }
 }

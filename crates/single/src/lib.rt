@@ -155,18 +155,60 @@ pub fn check(tag: u8, span: u32, body: &[u8]) -> bool
     header(tag) <= body.len() && fields_ok(tag, body) && view_ok(parse(tag, span, body), span, body)
 }
 
-// Where p stands among the rows of the local form.
-pub fn place(v: View, body: &[u8], p: u32) -> Place
-    requires { Readable v body.now }
-    ensures { result ≡ view_place v body.now p }
-{
-    let Some(inside) = p.checked_sub(v.base) else {
-        return Place {
-            below: 0,
-            present: false,
+/// A body whose view has the length that its readers want: any that is accepted.
+#[derive(Clone, Copy)]
+pub struct Single<'a> {
+    view: View,
+    body: &'a [u8],
+    ghost readable: { Readable view body.now },
+}
+
+impl<'a> Single<'a> {
+    pub fn new(view: View, body: &'a [u8]) -> Single<'a>
+        requires { Readable view body.now }
+        ensures view { result.view ≡ view }
+        ensures body { result.body.now ≡ body.now }
+    {
+        Single { view, body }
+    }
+
+    pub fn count(&self) -> u16
+        ensures { result ≡ self.now.view.count }
+    {
+        self.view.count
+    }
+
+    // Where p stands among the rows of the local form.
+    pub fn place(&self, p: u32) -> Place
+        ensures { result ≡ view_place self.now.view self.now.body.now p }
+    {
+        let v = self.view;
+        let Some(inside) = p.checked_sub(v.base) else {
+            return Place {
+                below: 0,
+                present: false,
+            };
         };
-    };
-    forms::place(v.form, &body[v.offset..], v.span, v.count, inside)
+        forms::place(v.form, &self.body[v.offset..], v.span, v.count, inside)
+    }
+
+    // The row of ordinal k.
+    pub fn select(&self, k: u16) -> u32
+        requires { k < self.now.view.count }
+        ensures { result ≡ view_select self.now.view self.now.body.now k }
+    {
+        let v = self.view;
+        v.base.wrapping_add(forms::select(v.form, &self.body[v.offset..], v.span, v.count, k))
+    }
+
+    // The rows from an ordinal on, as many as fit or remain.
+    pub fn walk(&self, from: u16, out: &mut [u32]) -> usize
+        ensures { Walked (view_walk self.now.view self.now.body.now from (length out.old)) out.old out.new result }
+    {
+        let v = self.view;
+        let part = &self.body[v.offset..];
+        forms::walk(v.form, part, v.span, v.count, from, v.base, out)
+    }
 }
 
 // Writes the rank of each position in an accepted body, or the number that stands for nothing. The header is read once.
@@ -177,21 +219,4 @@ pub fn ranks(tag: u8, span: u32, body: &[u8], positions: &[u32], out: &mut [u32]
     let v = parse(tag, span, body);
     let part = &body[v.offset..];
     forms::ranks(v.form, part, v.span, v.count, v.base, positions, out);
-}
-
-// The row of ordinal k.
-pub fn select(v: View, body: &[u8], k: u16) -> u32
-    requires { (Readable v body.now) × (k < v.count) }
-    ensures { result ≡ view_select v body.now k }
-{
-    v.base.wrapping_add(forms::select(v.form, &body[v.offset..], v.span, v.count, k))
-}
-
-// The rows from an ordinal on, as many as fit or remain.
-pub fn walk(v: View, body: &[u8], from: u16, out: &mut [u32]) -> usize
-    requires { Readable v body.now }
-    ensures { Walked (view_walk v body.now from (length out.old)) out.old out.new result }
-{
-    let part = &body[v.offset..];
-    forms::walk(v.form, part, v.span, v.count, from, v.base, out)
 }

@@ -89,7 +89,7 @@ module _ (tag span : ℕ) (xs : List ℕ) where
 
 -- the entries that it counts lie in the body and in the table, and the table filled up to it is what the call leaves
 pub record Counted (tag span : ℕ) (xs : List ℕ) (old : List Segment) (n : ℕ) : Type 0 where
-  pub inside : (i : ℕ) → i < n → (4 + 16 * (i + 1) ≤ length xs) × (i < length old)
+  pub inside : (i : ℕ) → i < n → (4 + 16 * n ≤ length xs) × (i < length old)
   pub left : fill_to xs n old ≡ segments_left tag span xs old
 
 module _ (tag span : ℕ) (xs : List ℕ) (old : List Segment) where

@@ -6,7 +6,7 @@ ghost use Rattle.std.specs.Prelude.{◌≡◌, length};
 ghost use Rattle.rowset.specs.Calls.{filled_of};
 ghost use Rattle.tables.specs.Tables.{segments_answer, segments_left};
 
-use directory::Segment;
+use directory::{Directory, Segment};
 use rowset::Refusal;
 
 // What `segments` answers, from the body and the room alone: nothing is stored.
@@ -36,7 +36,7 @@ pub fn segments(tag: u8, span: u32, body: &[u8], table: &mut [Segment]) -> Resul
 {
     let n = planned(tag, span, body, table.len())?;
     for i in 0..n {
-        table[i] = directory::entry(body, i);
+        table[i] = Directory::new(body, n).entry(i);
     }
     Ok(n)
 }

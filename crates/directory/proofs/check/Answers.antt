@@ -12,7 +12,7 @@ returns-then-body-lt4 c = check_short _ _ c.if-body-lt4.true
 pub returns-then-n-body : goal.returns-then-n-body
 returns-then-n-body c =
     elim c.if-n-ge1.branch [
-      | then-n-ge1 w ↦ check_segments _ _ c.segments-n.ensures.0 w.if-n-ge1.true (leb-true _ _ (sym w.value-is ∙ c.if-n-body.true)) c.counted.ensures c.read16.ensures c.stand.ensures
+      | then-n-ge1 w ↦ check_segments _ _ c.segments-n.ensures.0 w.if-n-ge1.true (leb-true _ _ (sym w.value-is ∙ c.if-n-body.true)) c.counted.ensures c.read16.ensures (rw (c.new.ensures.body, c.new.ensures.n) at c.stand.ensures)
       | else-n-ge1 w ↦ absurd (omega (arith, leb-true 1 c.segments-n.result (sym w.value-is ∙ c.if-n-body.true)))
     ]
 

@@ -9,7 +9,7 @@ use Rattle.emit.proofs.Wording.{mapping_start, mapping_next, mapping_end}
 use Rattle.emit_rows.proofs.bitmap_rows.Goals as goal
 
 pub loop-k-init : goal.loop-k-init
-loop-k-init g c = (mapping_start _ _ _ _ (rw (c.groups_of.ensures, c.words_of-words.ensures)), sight_none (omega arith), omega arith)
+loop-k-init g c = (mapping_start _ _ _ _ (rw c.groups_of.ensures), sight_none (omega arith), omega arith)
 
 pub word_rows-passed-requires : goal.word_rows-passed-requires
 word_rows-passed-requires g c =
@@ -20,7 +20,7 @@ word_rows-passed-requires g c =
 pub loop-k-preserved : goal.loop-k-preserved
 loop-k-preserved g c =
     let e = c.word_rows-passed.ensures in
-    (mapping_next _ _ _ _ c.loop-k.invariant.0 (rw c.words_of-words.ensures at c.loop-k-test.true) e.0 c.put_before.ensures c.put64.ensures, e.1, e.2)
+    (mapping_next _ _ _ _ c.loop-k.invariant.0 (rw c.words_of-k-end.ensures at c.loop-k-test.true) e.0 c.put_before.ensures c.put64.ensures, e.1, e.2)
 
 pub returns : goal.returns
-returns g c = mapping_end _ _ _ _ c.loop-k.invariant.0 (positions_below _ _ c.requires.0) (rw c.words_of-words.ensures at c.loop-k-test.false)
+returns g c = mapping_end _ _ _ _ c.loop-k.invariant.0 (positions_below _ _ c.requires.0) (rw c.words_of-k-end.ensures at c.loop-k-test.false)

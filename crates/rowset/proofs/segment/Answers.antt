@@ -4,8 +4,8 @@ use Rattle.bodies.proofs.Laws.{nine, nine_room}
 use Rattle.segmented.proofs.Named.{directory_of}
 use Rattle.rowset.proofs.segment.Goals as goal
 
-pub segments-requires : goal.segments-requires
-segments-requires c = omega (arith, nine_room _ _ _ c.in_ok-accepted.ensures.0 c.if-tag-ne9.false)
+pub segments-n-requires : goal.segments-n-requires
+segments-n-requires c = omega (arith, nine_room _ _ _ c.in_ok-accepted.ensures.0 c.if-tag-ne9.false)
 
-pub entry-requires : goal.entry-requires
-entry-requires c = omega (arith, (directory_of _ _ (nine _ _ _ c.in_ok-accepted.ensures.0 c.if-tag-ne9.false)).room, c.segments.ensures.0)
+pub new-requires : goal.new-requires
+new-requires c = omega (arith, (directory_of _ _ (nine _ _ _ c.in_ok-accepted.ensures.0 c.if-tag-ne9.false)).room, c.segments-n.ensures.0)

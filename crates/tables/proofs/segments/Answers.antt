@@ -22,8 +22,8 @@ returns-in_err-n-clause-table_after c = kept _ _ _ c.args.body.now c.args.table.
 pub loop-i-init : goal.loop-i-init
 loop-i-init c = sym (fill_none _ _)
 
-pub entry-requires : goal.entry-requires
-entry-requires c = ((counted _ _ _ c.args.body.now c.args.table.now c.in_ok-n.ensures).inside c.loop-i.i c.loop-i-test.true).0
+pub new-requires : goal.new-requires
+new-requires c = ((counted _ _ _ c.args.body.now c.args.table.now c.in_ok-n.ensures).inside c.loop-i.i c.loop-i-test.true).0
 
 pub offset_bounds-table-i : goal.offset_bounds-table-i
 offset_bounds-table-i c =
@@ -38,7 +38,7 @@ bounds-table-i c =
 pub loop-i-preserved : goal.loop-i-preserved
 loop-i-preserved c =
     let next = fill_next c.args.body.now c.loop-i.i c.args.table.now in
-    cc c.entry.ensures
+    cc (rw c.new.ensures.body at c.entry.ensures)
 
 pub returns-clause-table_after : goal.returns-clause-table_after
 returns-clause-table_after c =

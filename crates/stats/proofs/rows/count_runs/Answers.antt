@@ -2,13 +2,12 @@
 -- Assumes nothing.
 use mathlib.Core.Path.{◌∙◌}
 use mathlib.Core.List.{map}
-use Prim.Native.Nat.{◌-◌, ◌<◌}
 use native.Mathlib.Omega.{arith}
-use lib.ListN.{length, length-map}
+use lib.ListN.{length-map}
 use Rattle.model.specs.Lists.{positions_of}
 use Rattle.model.proofs.Positions.{length_positions}
 use Rattle.stats.proofs.RunByRun.{counting_start, counting_next, counting_end}
-use Rattle.stats.proofs.Ones.{one_apart, position_at}
+use Rattle.stats.proofs.Ones.{steps_apart}
 use Rattle.stats.proofs.Positions.{count_positions}
 use Rattle.stats.proofs.rows.count_runs.Goals as goal
 
@@ -19,10 +18,8 @@ pub loop-i-preserved : goal.loop-i-preserved
 loop-i-preserved g c =
     let rows = map g.R.Row.number c.args.rows.now in
     let l = length-map c.args.rows.now g.R.Row.number in
-    let k : c.loop-i.i < length rows = omega (arith, l) in
-    let here = position_at c.args.start rows c.loop-i.i k c.position.ensures c.row_at-in-loop-i.ensures in
-    let last = position_at c.args.start rows (c.loop-i.i - 1) (omega (arith, l)) c.position-next.ensures c.row_at.ensures in
-    counting_next _ _ _ c.loop-i.invariant (omega (arith, length_positions c.args.start rows)) (c.from-runs.ensures ∙ one_apart here last)
+    let apart = steps_apart c.args.start rows c.loop-i.i c.requires c.loop-i.auto.i (omega (arith, l)) c.row_at-in-loop-i.ensures c.row_at.ensures c.row_at-in-loop-i.type_inv c.row_at.type_inv in
+    counting_next _ _ _ c.loop-i.invariant (omega (arith, l, length_positions c.args.start rows)) (c.from-runs.ensures ∙ apart)
 
 pub returns : goal.returns
 returns g c =

@@ -1,8 +1,8 @@
--- `directory::stand` meets its contract: one flag loop over the entries.
+-- `directory::Directory::stand` meets its contract: one flag loop over the entries.
 -- Assumes nothing.
 use Rattle.std.proofs.Common.{arith, ◌∙◌}
 use Rattle.directory.proofs.Checking.{standing_start, standing_next, standing_end}
-use Rattle.directory.proofs.stand.Goals as goal
+use Rattle.directory.proofs.Directory.stand.Goals as goal
 
 pub loop-i-init : goal.loop-i-init
 loop-i-init c = standing_start _ _ _

@@ -1,10 +1,10 @@
--- `single::place` meets its contract: below the base nothing stands.
+-- `single::Single::place` meets its contract: below the base nothing stands.
 -- Assumes nothing.
 use Rattle.std.proofs.Common.{sym, ◌∙◌, arith, le-ltb, lt-ltb}
 use Rattle.model.proofs.Tests.{pick_true, pick_false}
 use Rattle.single.specs.Single.{view_place}
 use Rattle.model.proofs.Taking.{tail_is}
-use Rattle.single.proofs.place.Goals as goal
+use Rattle.single.proofs.Single.place.Goals as goal
 
 pub returns-in_default : goal.returns-in_default
 unfolding view_place
