@@ -2,7 +2,7 @@
 
 #![tactic(auto)]
 
-ghost use Rattle.std.specs.Prelude.{MatchOption, ◌≡◌, ◌+◌, ◌-◌, ◌*◌, ◌<◌, ◌≤◌, length, take, drop};
+ghost use Rattle.std.specs.Prelude.{MatchOption, IfNone, ◌≡◌, ◌+◌, ◌-◌, ◌*◌, ◌<◌, ◌≤◌, length, take, drop};
 ghost use Rattle.queue.specs.Keys.{key, put, Heap};
 ghost use Rattle.queue.specs.Steps.{Larger, Settled, Pushed, Popped};
 
@@ -124,6 +124,7 @@ impl<'a> Queue<'a> {
         ensures same_reference { self.new.words.ghost_name ≡ self.old.words.ghost_name }
         ensures size { length self.new.words.now ≡ length self.old.words.now }
         ensures popped { MatchOption result (self.old.len ≡ 0) (λ r. Popped self.old.words.now self.old.len r self.new.words.now) }
+        ensures kept { IfNone result (self.new.words.now ≡ self.old.words.now) }
         ensures len { self.new.len ≡ self.old.len - 1 }
     {
         if self.len == 0 {
