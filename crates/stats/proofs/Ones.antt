@@ -24,20 +24,17 @@ unfolding pick
 one_not true = refl
 one_not false = refl
 
-step_apart : (start a b : ℕ) → start ≤ a → a < start + 4294967295 → start ≤ b → b < start + 4294967295 → a < 18446744073709551616 → b < 18446744073709551616
-    → eqb ((b + (18446744073709551616 - a)) % 18446744073709551616 % 4294967296) 1 ≡ eqb (b - start) (suc (a - start))
-step_apart start a b l m n o p q = same_eqb _ _ _ _ (λ e. omega arith) (λ e. omega arith)
+step_apart : (start a b s : ℕ) → start ≤ a → a < start + 4294967295 → start ≤ b → b < start + 4294967295 → s < 4294967296 → (a + s) % 4294967296 ≡ b % 4294967296
+    → eqb s 1 ≡ eqb (b - start) (suc (a - start))
+step_apart start a b s l m n o p e = same_eqb _ _ _ _ (λ f. omega arith) (λ f. omega arith)
 
--- the row at i of some that can be planned, and the row before it: a step of 1 is one of positions
-pub steps_apart : (start : ℕ) (rows : List ℕ) {a b : ℕ} (i : ℕ) → Within start rows → 1 ≤ i → i < length rows → a ≡ get_or rows (i - 1) 0 → b ≡ get_or rows i 0 → a < 18446744073709551616 → b < 18446744073709551616
-    → bool_byte (not (eqb ((b + (18446744073709551616 - a)) % 18446744073709551616 % 4294967296) 1)) ≡ pick {A = ℕ} (eqb (get_or (positions_of start rows) i 0) (suc (get_or (positions_of start rows) (i - 1) 0))) 0 1
-steps_apart start rows {a} {b} i w some h d e p q =
-    let l = w.from (i - 1) (omega arith) in
-    let m = w.below (i - 1) (omega arith) in
-    let n = w.from i h in
-    let o = w.below i h in
-    rw (get_or_positions start rows i h, get_or_positions start rows (i - 1) (omega arith), ← d, ← e, step_apart start a b (omega arith) (omega arith) (omega arith) (omega arith) p q)
-    (one_not (eqb (b - start) (suc (a - start))))
+-- to the row at i of some that can be planned, from the row before it: a step of 1 is one of positions
+pub steps_apart : (start : ℕ) (rows : List ℕ) {s : ℕ} (i : ℕ) → Within start rows → 1 ≤ i → i < length rows → s < 4294967296 → (get_or rows (i - 1) 0 + s) % 4294967296 ≡ get_or rows i 0 % 4294967296
+    → bool_byte (not (eqb s 1)) ≡ pick {A = ℕ} (eqb (get_or (positions_of start rows) i 0) (suc (get_or (positions_of start rows) (i - 1) 0))) 0 1
+steps_apart start rows {s} i w some h p q =
+    let k : i - 1 < length rows = omega arith in
+    rw (get_or_positions start rows i h, get_or_positions start rows (i - 1) k, step_apart start (get_or rows (i - 1) 0) (get_or rows i 0) s (w.from (i - 1) k) (w.below (i - 1) k) (w.from i h) (w.below i h) p q)
+    (one_not (eqb (get_or rows i 0 - start) (suc (get_or rows (i - 1) 0 - start))))
 
 pub position_at : (start : ℕ) (rows : List ℕ) {p r : ℕ} (i : ℕ) → i < length rows → p ≡ r - start → r ≡ get_or rows i 0 → p ≡ get_or (positions_of start rows) i 0
 position_at start rows i h e f = e ∙ ap (λ (r : ℕ). r - start) f ∙ sym (get_or_positions start rows i h)

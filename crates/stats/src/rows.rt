@@ -1,5 +1,5 @@
 // Runs and statistics of rows of either width.
-ghost use Rattle.std.specs.Prelude.{◌≡◌, suc, ◌+◌, ◌-◌, ◌<◌, ◌≤◌, eqb, length, map};
+ghost use Rattle.std.specs.Prelude.{◌≡◌, suc, ◌+◌, ◌-◌, ◌%◌, ◌<◌, ◌≤◌, eqb, length, map, get_or};
 ghost use Rattle.model.specs.Lists.{runs_of, positions_of};
 ghost use Rattle.stats.specs.Statistics.{stats_of};
 ghost use Rattle.stats.specs.Rows.{run_end, Within};
@@ -27,17 +27,24 @@ pub fn run_end<R: Row>(rows: &[R], i: usize) -> usize
     rows.len()
 }
 
+// How far it is to the row of index i from the row before it, by the lowest 32 digits.
+fn step_to<R: Row>(rows: &[R], i: usize) -> u32
+    requires { (1 ≤ i) × (i < length rows.now) }
+    ensures { (get_or (map R.number rows.now) (i - 1) 0 + result) % 4294967296 ≡ get_or (map R.number rows.now) i 0 % 4294967296 }
+{
+    rows[i - 1].step(rows[i])
+}
+
 // How many runs the rows make: one, and one more for each row that does not follow the row before it. No branch here depends on
 // rows: a loop that left each run at its end would guess wrong at every short one. Two rows are less than 2^32 apart, so that the
-// lowest 32 digits of a step tell whether it is 1, and the compiled code takes more ordinals at once than with all 64.
+// lowest 32 digits of a step tell whether it is 1.
 fn count_runs<R: Row>(rows: &[R], start: u64) -> u32
     requires { Within start (map R.number rows.now) }
     ensures { result ≡ length (runs_of (positions_of start (map R.number rows.now))) }
 {
     let mut runs = 1;
     for i in 1..rows.len() {
-        let step = row_at(rows, i).wrapping_sub(row_at(rows, i - 1));
-        runs += u32::from((step % 4294967296) as u32 != 1);
+        runs += u32::from(step_to(rows, i) != 1);
     }
     runs
 }

@@ -18,7 +18,7 @@ pub loop-i-preserved : goal.loop-i-preserved
 loop-i-preserved g c =
     let rows = map g.R.Row.number c.args.rows.now in
     let l = length-map c.args.rows.now g.R.Row.number in
-    let apart = steps_apart c.args.start rows c.loop-i.i c.requires c.loop-i.auto.i (omega (arith, l)) c.row_at-in-loop-i.ensures c.row_at.ensures c.row_at-in-loop-i.type_inv c.row_at.type_inv in
+    let apart = steps_apart c.args.start rows c.loop-i.i c.requires c.loop-i.auto.i (omega (arith, l)) c.step_to.type_inv c.step_to.ensures in
     counting_next _ _ _ c.loop-i.invariant (omega (arith, l, length_positions c.args.start rows)) (c.from-runs.ensures ∙ apart)
 
 pub returns : goal.returns
