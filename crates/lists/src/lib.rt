@@ -70,6 +70,7 @@ impl<'a> Items<'a> {
     }
 
     // Where p stands: the search finds how many items are at most p, and the last of them may be p.
+    #[tactic(auto, using(search::proofs::Laws::found_within))]
     pub fn place(&self, p: u32) -> Place
         ensures { result ≡ list_place (width_of self.now.wide) self.now.body.now self.now.count p }
     {
