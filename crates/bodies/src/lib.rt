@@ -40,13 +40,23 @@ pub fn accept<'a>(tag: u8, span: u32, body: &'a [u8]) -> Option<Accepted<'a>>
     ensures same { IfSome result (λ a. (a.tag ≡ tag) × (a.span ≡ span) × (a.body.now ≡ body.now)) }
 {
     if check(tag, span, body) {
-        Some(Accepted { tag, span, body })
+        Some(Accepted::new(tag, span, body))
     } else {
         None
     }
 }
 
 impl<'a> Accepted<'a> {
+    // Of a body that is known to be accepted, as one that its caller checked before: it is not checked again.
+    pub fn new(tag: u8, span: u32, body: &'a [u8]) -> Accepted<'a>
+        requires { accepts tag span body.now ≡ true }
+        ensures tag { result.tag ≡ tag }
+        ensures span { result.span ≡ span }
+        ensures body { result.body.now ≡ body.now }
+    {
+        Accepted { tag, span, body }
+    }
+
     // The one local form of a body of another tag than 9.
     fn single(&self) -> Single
         requires { self.now.tag ≡ 9 → ⊥ }

@@ -11,6 +11,22 @@ ghost use Rattle.lists.specs.Lists.{item, rises_below, list_accepts, list_names,
 
 use model::Place;
 
+// Item i of any bytes that hold it. A count of 16 bits bounds the items of `Items`; the bytes may hold more.
+pub fn item(body: &[u8], i: usize, wide: bool) -> u32
+    requires { (i + 1) * width_of wide ≤ length body.now }
+    ensures { result ≡ item (width_of wide) body.now i }
+{
+    fields::field(body, i * fields::width(wide), wide)
+}
+
+// Item k of any bytes that hold it: k = 65535 too, which is below no count of 16 bits.
+pub fn select(body: &[u8], k: u16, wide: bool) -> u32
+    requires { (k + 1) * width_of wide ≤ length body.now }
+    ensures { result ≡ item (width_of wide) body.now k }
+{
+    item(body, usize::from(k), wide)
+}
+
 /// The items of a list, which lie in front of a body: `count` of them, 4 bytes each where `wide`, else 2.
 #[derive(Clone, Copy)]
 pub struct Items<'a> {
@@ -35,7 +51,7 @@ impl<'a> Items<'a> {
         requires { i < self.now.count }
         ensures { result ≡ item (width_of self.now.wide) self.now.body.now i }
     {
-        fields::field(self.body, i * fields::width(self.wide), self.wide)
+        item(self.body, i, self.wide)
     }
 
     // Whether the items rise and stay below the span: the last of rising items is the largest. No early exit, so that the loop vectorizes.
@@ -54,6 +70,7 @@ impl<'a> Items<'a> {
     }
 
     // Where p stands: the search finds how many items are at most p, and the last of them may be p.
+    #[tactic(auto, using(search::proofs::Laws::found_within))]
     pub fn place(&self, p: u32) -> Place
         ensures { result ≡ list_place (width_of self.now.wide) self.now.body.now self.now.count p }
     {
@@ -96,7 +113,7 @@ impl<'a> Items<'a> {
         requires { k < self.now.count }
         ensures { result ≡ item (width_of self.now.wide) self.now.body.now k }
     {
-        self.item(usize::from(k))
+        select(self.body, k, self.wide)
     }
 
     pub fn walk(&self, from: u16, base: u32, out: &mut [u32]) -> usize

@@ -1,17 +1,9 @@
 -- `lists::Items::place` meets its contract: what the search found, and the item before it.
 -- Assumes nothing.
-use Rattle.std.proofs.Common.{arith}
-use Rattle.search.proofs.Laws.{found_within}
 use Rattle.lists.specs.Lists.{list_place}
 use Rattle.lists.proofs.Places.{found_none, found_some}
 use Rattle.lists.proofs.Items.place.Goals as goal
 use Rattle.lists.proofs.Items.place.Goals.{then-k-gt0, else-k-gt0}
-
-pub item-requires : goal.item-requires
-item-requires c = omega (arith, found_within _ _ c.upper-k.ensures)
-
-pub overflow_cast-result : goal.overflow_cast-result
-overflow_cast-result c = omega (arith, found_within _ _ c.upper-k.ensures)
 
 pub returns : goal.returns
 unfolding list_place
