@@ -17,6 +17,7 @@ use model::{Row, row_at};
 // ---- headers, and an entry of the directory
 
 // The field beside the count: the number of runs, or a zero.
+#[tactic(auto, unfolding(model::specs::Tests::pick))]
 fn beside(tag: u8, runs: u16) -> u16
     ensures { result ≡ pick (ltb tag 6) runs 0 }
 {

@@ -1,7 +1,7 @@
 // What most rows and pages are, seen by the tests that such a one needs. Other pages go by every test in its order.
 ghost use Rattle.std.specs.Prelude.{◌≡◌, true, false, length};
 ghost use Rattle.gather_core.specs.Gather.{added, added_to, Follows, Goes, GoesIn};
-ghost use Rattle.gather.specs.Records.{Leads};
+ghost use Rattle.gather.specs.Records.{Leads, went_on};
 
 use gather_core::{Gatherer, above, early, end_of, rises_closely, too_many};
 use model::Refusal;
@@ -51,7 +51,8 @@ pub(crate) fn row_way(g: Gatherer, room: usize, row: u64) -> Result<Way, Refusal
 // jump more.
 pub(crate) fn put_on(g: &mut Gatherer, table: &mut [u16], row: u64)
     requires { Goes true g.old (length table.old) row }
-    ensures { (g.new ≡ added g.old row) × (table.new ≡ added_to table.old g.old row) }
+    ensures taken { (g.new ≡ added g.old row) × (table.new ≡ added_to table.old g.old row) }
+    ensures others_unchanged { went_on g.old g.new ≡ g.new }
 {
     let rows = g.rows + 1;
     table[g.entries - 1] = end_of(rows);

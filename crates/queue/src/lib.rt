@@ -90,6 +90,26 @@ pub fn pop(h: &mut [u32], n: usize) -> u64
     top
 }
 
+// The same two over the words from base on, for a queue that already waits behind other tables: a `Queue` is empty at first. The
+// words in front of base stay as they are.
+pub fn push_at(w: &mut [u32], base: usize, n: usize, k: u64)
+    requires n_in_bounds { base + (n * 2 + 1) < length w.old }
+    requires heap { Heap (drop base w.old) n }
+    ensures pushed { Pushed (drop base w.old) n k (drop base w.new) }
+    ensures w_unchanged { take base w.new ≡ take base w.old }
+{
+    push(&mut w[base..], n, k);
+}
+
+pub fn pop_at(w: &mut [u32], base: usize, n: usize) -> u64
+    requires n_nonzero { (0 < n) × (base + n * 2 ≤ length w.old) }
+    requires heap { Heap (drop base w.old) n }
+    ensures popped { Popped (drop base w.old) n result (drop base w.new) }
+    ensures w_unchanged { take base w.new ≡ take base w.old }
+{
+    pop(&mut w[base..], n)
+}
+
 // A queue over a lent slice of words, empty at first.
 #[derive(Drop)]
 pub struct Queue<'a> {

@@ -5,7 +5,7 @@ use Rattle.segmented.proofs.Named.{directory_of}
 use Rattle.rowset.proofs.segment.Goals as goal
 
 pub segments-n-requires : goal.segments-n-requires
-segments-n-requires c = omega (arith, nine_room _ _ _ c.in_ok-accepted.ensures.0 c.if-tag-ne9.false)
+segments-n-requires c = omega (arith, nine_room _ _ _ c.in_ok-accepted.ensures.0 (omega arith))
 
 pub new-requires : goal.new-requires
-new-requires c = omega (arith, (directory_of _ _ (nine _ _ _ c.in_ok-accepted.ensures.0 c.if-tag-ne9.false)).room, c.segments-n.ensures.0)
+new-requires c = omega (arith, (directory_of _ _ (nine _ _ _ c.in_ok-accepted.ensures.0 (omega arith))).room, c.segments-n.ensures.0)

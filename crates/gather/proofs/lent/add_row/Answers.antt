@@ -25,7 +25,7 @@ pub returns-in-On : goal.returns-in-On
 unfolding Leads
 returns-in-On c =
     let o = rw c.in-On.is at c.in_ok-row_way.ensures in
-    let d = row_done _ _ _ o.number _ _ c.put_on.ensures in
+    let d = row_done _ _ _ o.number _ _ c.put_on.ensures.taken in
     record { answered = d.0; record_after = d.1.0; table_after = d.1.1 }
 
 pub returns-in-Anew : goal.returns-in-Anew

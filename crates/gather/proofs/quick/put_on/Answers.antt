@@ -3,6 +3,7 @@
 use Rattle.std.proofs.Common.{sym, arith}
 use Rattle.gather_core.specs.Gather.{added_to}
 use Rattle.gather_core.proofs.Admitted.{added-joins, goes_on-fits}
+use Rattle.gather.proofs.Taken.{together}
 use Rattle.gather.proofs.quick.put_on.Goals as goal
 
 pub overflow_add-rows : goal.overflow_add-rows
@@ -20,8 +21,11 @@ offset_bounds-table-g c = let f = goes_on-fits _ _ _ c.requires in omega arith
 pub bounds-table-g : goal.bounds-table-g
 bounds-table-g c = let f = goes_on-fits _ _ _ c.requires in omega arith
 
-pub returns : goal.returns
+pub returns-clause-taken : goal.returns-clause-taken
 unfolding added_to
-returns c =
+returns-clause-taken c =
     let e = added-joins c.args.g.now c.args.row c.requires.in_seed in
     (sym e, rw (c.end_of.ensures, e))
+
+pub returns-clause-others_unchanged : goal.returns-clause-others_unchanged
+returns-clause-others_unchanged c = together _ _ _ c.requires _ (sym (added-joins c.args.g.now c.args.row c.requires.in_seed))
