@@ -13,19 +13,25 @@ ghost use Rattle.merge.specs.Steps.{Added, pair_is, pair_key, left_is, left_key,
 use links::{Pair, admitted, cell, decode, encode, link, live, next, saving, segment, start};
 use queue::Queue;
 
-// Puts a pair of segments into the queue, if it is admitted.
-fn offer(t: &[u32], queue: &mut Queue, p: Pair)
-    requires cuts { Cuts 65535 p.left p.middle p.right × (p.middle * 8 + 8 ≤ length t.now) }
+// Puts the pair of segments that meet in the middle into the queue, if it is admitted. The three cuts come one by one and are made a
+// pair where one is put in: a pair would be passed in memory, at each neighbour of seeds.
+fn offer(t: &[u32], queue: &mut Queue, left: usize, middle: usize, right: usize)
+    requires cuts { Cuts 65535 left middle right × (middle * 8 + 8 ≤ length t.now) }
     requires room { queue.old.len * 2 + 1 < length queue.old.words.now }
-    requires neighbours { Neighbours (stat_at t.now p.left) (stat_at t.now p.middle) }
+    requires neighbours { Neighbours (stat_at t.now left) (stat_at t.now middle) }
     ensures same_reference { queue.new.words.ghost_name ≡ queue.old.words.ghost_name }
     ensures size { length queue.new.words.now ≡ length queue.old.words.now }
-    ensures added { Added queue.old.len (pair_is t.now p.left p.middle) (pair_key t.now p.left p.middle p.right) queue.old.words.now queue.new.words.now queue.new.len }
+    ensures added { Added queue.old.len (pair_is t.now left middle) (pair_key t.now left middle right) queue.old.words.now queue.new.words.now queue.new.len }
 {
-    let a = segment(t, p.left);
-    let b = segment(t, p.middle);
+    let a = segment(t, left);
+    let b = segment(t, middle);
     if admitted(a, b) {
-        queue.push(encode(saving(a, b), p));
+        let pair = Pair {
+            left,
+            middle,
+            right,
+        };
+        queue.push(encode(saving(a, b), pair));
     }
 }
 
@@ -40,15 +46,7 @@ fn offer_left(t: &[u32], queue: &mut Queue, l: usize, r: usize)
 {
     if 0 < l {
         let left = cell(t, l, 1);
-        offer(
-            t,
-            queue,
-            Pair {
-                left,
-                middle: l,
-                right: r,
-            },
-        );
+        offer(t, queue, left, l, r);
     }
 }
 
@@ -63,15 +61,7 @@ fn offer_right(t: &[u32], queue: &mut Queue, l: usize, r: usize)
 {
     let right = next(t, r);
     if 0 < right {
-        offer(
-            t,
-            queue,
-            Pair {
-                left: l,
-                middle: r,
-                right,
-            },
-        );
+        offer(t, queue, l, r, right);
     }
 }
 
@@ -113,12 +103,7 @@ fn offer_all(t: &[u32], queue: &mut Queue, n: usize)
     ensures offering { Offering (stat_at t.now) n (n - 1) queue.new.words.now queue.new.len }
 {
     for i in 0..n - 1 {
-        let p = Pair {
-            left: i,
-            middle: i + 1,
-            right: i + 2,
-        };
-        offer(t, queue, p);
+        offer(t, queue, i, i + 1, i + 2);
     }
 }
 
