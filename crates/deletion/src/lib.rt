@@ -3,7 +3,7 @@
 
 #![tactic(auto)]
 
-ghost use Rattle.std.specs.Prelude.{◌≡◌, ℕ, ◌+◌, ◌-◌, ◌≤◌, ◌<◌, length, get_or, IfOk, IfSome};
+ghost use Rattle.std.specs.Prelude.{◌≡◌, ℕ, ◌+◌, ◌-◌, ◌≤◌, ◌<◌, true, length, get_or, IfSome};
 ghost use Rattle.std.proofs.lemmas.List.Edits.{sets};
 ghost use Rattle.model.specs.Tests.{pick};
 ghost use Rattle.model.specs.Lists.{has, walk_of};
@@ -11,7 +11,7 @@ ghost use Rattle.model.specs.Answers.{over, Walked};
 ghost use Rattle.model.specs.Refusals.{number_in};
 ghost use Rattle.bodies.specs.Bodies.{names};
 ghost use Rattle.rowset.specs.Calls.{filled_of};
-ghost use Rattle.deletion.specs.Reading.{counted_of, contained_of, body_limit, block_fits, stated_fit, coded_number, section_number, deleted_of, stated_of, held_by, check_answer, contains_answer, walk_answer, walk_left};
+ghost use Rattle.deletion.specs.Reading.{counted_of, contained_of, body_limit, block_fits, stated_fit, coded_number, section_number, sound, deleted_of, stated_of, held_by, check_answer, contains_answer, walk_answer, walk_left};
 ghost use Rattle.deletion.specs.Striking.{struck_of, strike_of, strike_out, strike_work};
 
 use bodies::Accepted;
@@ -60,44 +60,50 @@ fn check_block(rows: u16, limit: usize) -> Result<(), Refusal>
     }
 }
 
-// The block and the stated count, then the body, then its count.
+// The block and the stated count, then the body, then its count. No body is handed on with the answer, which would then go through
+// memory: where no test refuses, it is `held_in` the section.
 #[tactic(auto, unfolding(crate::specs::Reading::coded_number, model::specs::Tests::both, model::specs::Tests::pick))]
-fn check_coded<'a>(
-    rows: u16,
-    limit: usize,
-    coded: Coded,
-    body: &'a [u8],
-) -> Result<Accepted<'a>, Refusal>
-    ensures number { number_in result ≡ coded_number rows limit coded.count coded.tag body.now }
-    ensures same { IfOk result (λ a. (a.tag ≡ coded.tag) × (a.span ≡ rows) × (a.body.now ≡ body.now)) }
+fn check_coded(rows: u16, limit: usize, coded: Coded, body: &[u8]) -> Result<(), Refusal>
+    ensures { number_in result ≡ coded_number rows limit coded.count coded.tag body.now }
 {
     if !block_fits(rows, limit) || !stated_fit(rows, coded.count, body.len()) {
         return Err(Refusal::Block);
     }
-    let accepted = bodies::accept(coded.tag, u32::from(rows), body).ok_or(Refusal::Body)?;
-    if accepted.count() != coded.count {
+    if !bodies::check(coded.tag, u32::from(rows), body) {
+        return Err(Refusal::Body);
+    }
+    if Accepted::new(coded.tag, u32::from(rows), body).count() != coded.count {
         return Err(Refusal::Count);
     }
-    Ok(accepted)
+    Ok(())
 }
 
-// The body of a section that no test refuses; an empty section has none.
-#[tactic(auto, unfolding(crate::specs::Reading::section_number, crate::specs::Reading::deleted_of, crate::specs::Reading::held_by))]
-fn check_section<'a>(
+// Of an empty section the block alone is tested.
+#[tactic(auto, unfolding(crate::specs::Reading::section_number))]
+fn check_section(
     rows: u16,
     limit: usize,
     section: Option<Coded>,
-    body: &'a [u8],
-) -> Result<Option<Accepted<'a>>, Refusal>
-    ensures number { number_in result ≡ section_number rows limit section body.now }
-    ensures held { IfOk result (λ held. (held_by held ≡ deleted_of rows section body.now) × IfSome held (λ a. a.span ≤ 65535)) }
+    body: &[u8],
+) -> Result<(), Refusal>
+    ensures { number_in result ≡ section_number rows limit section body.now }
 {
     match section {
-        None => {
-            check_block(rows, limit)?;
-            Ok(None)
-        }
-        Some(coded) => Ok(Some(check_coded(rows, limit, coded, body)?)),
+        None => check_block(rows, limit),
+        Some(coded) => check_coded(rows, limit, coded, body),
+    }
+}
+
+// The body of a section that no test refuses; an empty section has none.
+#[tactic(auto, using(crate::proofs::Sections::coded_accepted), unfolding(crate::specs::Reading::deleted_of, crate::specs::Reading::held_by))]
+fn held_in<'a>(rows: u16, section: Option<Coded>, body: &'a [u8]) -> Option<Accepted<'a>>
+    requires { sound rows section body.now ≡ true }
+    ensures deleted { held_by result ≡ deleted_of rows section body.now }
+    ensures narrow { IfSome result (λ a. a.span ≤ 65535) }
+{
+    match section {
+        None => None,
+        Some(coded) => Some(Accepted::new(coded.tag, u32::from(rows), body)),
     }
 }
 
@@ -201,7 +207,8 @@ pub fn contains(
 ) -> Result<bool, Refusal>
     ensures { contained_of result ≡ contains_answer rows limit section body.now ordinal }
 {
-    let held = check_section(rows, limit, section, body)?;
+    check_section(rows, limit, section, body)?;
+    let held = held_in(rows, section, body);
     Ok(is_deleted(held, ordinal))
 }
 
@@ -218,7 +225,8 @@ pub fn walk_deletions(
     ensures result_value { filled_of result ≡ walk_answer rows limit section body.now from (length out.old) }
     ensures out_after { out.new ≡ walk_left rows limit section body.now from out.old }
 {
-    let held = check_section(rows, limit, section, body)?;
+    check_section(rows, limit, section, body)?;
+    let held = held_in(rows, section, body);
     Ok(write(held, from, out))
 }
 

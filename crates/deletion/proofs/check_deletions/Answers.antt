@@ -7,5 +7,5 @@ use Rattle.deletion.proofs.check_deletions.Goals as goal
 pub returns : goal.returns
 unfolding counted_of check_answer
 returns c =
-    let e = c.in_ok-check_section.ensures.number in
+    let e = c.in_ok-check_section.ensures in
     answers e refl (ap (λ (k : ℕ). k ∷ []) (c.stated.ensures ∙ sound_count _ _ _ (number-sound _ _ _ _ (sym e))))
