@@ -86,7 +86,7 @@ fn refill(stdin: Stdin, buf: &mut [u8], lo: usize, hi: usize) -> usize
 }
 
 // Lists the whole records at lo..hi.
-#[tactic(auto, using(crate::proofs::Laws::record_within))]
+#[tactic(auto, using(crate::proofs::Laws::record_within, crate::proofs::Laws::passed_none))]
 fn list_some(
     stdout: Stdout,
     buf: &[u8],
@@ -99,7 +99,7 @@ fn list_some(
     requires from_le_hi { (from ≤ hi) × (hi ≤ length buf.now) }
     requires waiting_in_bounds { (waiting ≤ length out.old) × (128 ≤ length out.old) }
     requires hi_bound { before + hi < 18446744073709551616 }
-    ensures { Listed from hi before (length out.old) result }
+    ensures { Listed buf.now from hi before (length out.old) result }
 {
     let mut lo = from;
     let mut at = waiting;
